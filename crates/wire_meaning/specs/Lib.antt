@@ -1,0 +1,7 @@
+pub mod Mask
+pub mod Frame
+pub mod Text
+pub mod Event
+pub mod Reading
+pub mod Answer
+pub mod View
