@@ -1,0 +1,16 @@
+pub mod Link
+pub mod Source
+pub mod Sink
+pub mod Plan
+pub mod MemSource
+pub mod MemSink
+pub mod StdSource
+pub mod StdSink
+pub mod Schedule
+pub mod NetState
+pub mod Net
+pub mod LinkState
+pub mod Acts
+pub mod MemNet
+pub mod MemSteps
+pub mod Caller
