@@ -1,0 +1,11 @@
+pub mod Outputs
+pub mod Printed
+pub mod Fronts
+pub mod Numbers
+pub mod Hex
+pub mod Lines
+pub mod Followed
+pub mod Begun
+pub mod Unique
+pub mod Again
+pub mod Reported

@@ -1,0 +1,7 @@
+use Rattle.std.proofs.Common.{take}
+use Rattle.schedule_text.specs.Line.{hex}
+use Rattle.schedule_text.specs.Output.{Puts}
+use Rattle.schedule_text.proofs.output.Output.hex.Given as goal
+
+abbrev pub invariant-octets : goal.invariant-octets
+invariant-octets g l = Puts (hex (take l.octet-index l.octets)) l.fn.self.held.items l.self.held.items (g.K.Sink.written l.fn.sink) (g.K.Sink.written l.sink) (g.K.Sink.faults l.fn.sink) (g.K.Sink.faults l.sink)

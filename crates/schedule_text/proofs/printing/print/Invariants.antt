@@ -1,0 +1,11 @@
+use Rattle.std.proofs.Common.{[], take}
+use Rattle.std.specs.List.{AllByRecursion}
+use Rattle.schedule_text.specs.Spelling.{SendsOctets, schedule_text}
+use Rattle.schedule_text.specs.Output.{Puts}
+use Rattle.schedule_text.proofs.printing.print.Given as goal
+
+abbrev pub invariant-acts : goal.invariant-acts
+invariant-acts g l = record {
+  text : Puts (schedule_text (take l.act-index l.act-items)) [] [] (g.K.Sink.written l.fn.sink) (g.K.Sink.written l.sink) (g.K.Sink.faults l.fn.sink) (g.K.Sink.faults l.sink);
+  octets : AllByRecursion SendsOctets (take l.act-index l.act-items);
+}

@@ -1,0 +1,9 @@
+pub mod Line
+pub mod Spelling
+pub mod Reading
+pub mod Report
+pub mod Output
+pub mod Front
+pub mod Arrivals
+pub mod Reader
+pub mod FaultText
