@@ -1,0 +1,6 @@
+use Rattle.std.proofs.Common.{take, flat_map}
+use Rattle.utf8_stream.specs.Stream.{Follows}
+use Rattle.utf8_stream.proofs.stream.are_utf8.Given as goal
+
+abbrev pub invariant-pieces : goal.invariant-pieces
+invariant-pieces l = Follows l.utf8 (flat_map (λ piece. piece.items) (take l.piece-index l.pieces))

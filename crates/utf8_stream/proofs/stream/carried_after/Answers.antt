@@ -1,0 +1,29 @@
+use Rattle.std.proofs.Common.{ℕ, ◌-◌, List, length, take, sym, ap, subst, ◌∙◌, arith}
+use Rattle.std.proofs.lemmas.List.{take_rest}
+use Rattle.wire_meaning.specs.Text.{is_text_front}
+use Rattle.utf8_stream.specs.Unfinished.{IsWholeUpTo, carried_octets}
+use Rattle.utf8_stream.specs.Stream.{Follows}
+use Rattle.utf8_stream.proofs.StreamLemmas.{Follows-behind, Follows-malformed, carried_lt, joined_text}
+use Rattle.utf8_stream.proofs.stream.carried_after.Goals as goal
+
+pub returns-in_err-whole-clause-follows : goal.returns-in_err-whole-clause-follows
+returns-in_err-whole-clause-follows c =
+    rw c.from_residual.ensures
+    (Follows-malformed c.args.carried.now c.args.piece.now 3 (ap is_text_front (sym (c.deref.ensures.0 ∙ c.joined-joined.ensures)) ∙ c.in_err-whole.ensures))
+
+pub overflow_sub-whole : goal.overflow_sub-whole
+overflow_sub-whole c =
+    let whole = c.in_ok-whole.whole in
+    let w = subst (λ (s : List ℕ). IsWholeUpTo s whole) (c.deref.ensures.0 ∙ c.joined-joined.ensures) c.in_ok-whole.ensures in
+    omega (arith, carried_lt c.args.carried.now (take 3 c.args.piece.now) whole c.requires w (omega arith))
+
+pub returns-in_default-clause-follows : goal.returns-in_default-clause-follows
+returns-in_default-clause-follows c =
+    let carried = c.args.carried.now in
+    let piece = c.args.piece.now in
+    let whole = c.in_ok-whole.whole in
+    let w = subst (λ (s : List ℕ). IsWholeUpTo s whole) (c.deref.ensures.0 ∙ c.joined-joined.ensures) c.in_ok-whole.ensures in
+    let after = carried_octets c.carried_of-in_default.result in
+    Follows-behind after carried piece (whole - length carried)
+    (joined_text carried piece whole w (omega (arith, carried_lt carried (take 3 piece) whole c.requires w (omega arith))))
+    (subst (λ (s : List ℕ). Follows after s) (take_rest piece (whole - length carried)) c.carried_of-in_default.ensures.follows)
