@@ -1,0 +1,11 @@
+-- What a close frame tells.
+use Rattle.std.specs.Prelude.{◌≡◌, ℕ, ◌-◌, ◌≤◌, List, length, drop}
+use Rattle.wire_meaning.specs.Event.{closed, failed, closing}
+use Rattle.frame_reader.specs.declared.reader.Told.{Told}
+use Rattle.frame_reader.specs.declared.reader.Told.TheVariants as told
+
+-- what the payload of a close frame says
+abbrev pub CloseIs : Told → List ℕ → Type 0
+CloseIs (told.Close code size) payload = (size ≤ length payload) × (closing payload ≡ closed code (drop (length payload - size) payload))
+CloseIs (told.Failed code) payload = closing payload ≡ failed code
+CloseIs other payload = ⊥

@@ -1,0 +1,7 @@
+pub mod Middle
+pub mod Header
+pub mod State
+pub mod Reader
+pub mod Turn
+pub mod Close
+pub mod Step
