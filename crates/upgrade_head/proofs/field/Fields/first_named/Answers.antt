@@ -1,0 +1,18 @@
+use Rattle.std.proofs.Common.{◌≡◌, ℕ, List, false, length, subst, sym, ◌∙◌, arith}
+use Rattle.std.specs.Str.{str_eq_ignore_ascii_case}
+use Rattle.std.proofs.lemmas.List.Elements.{All-rest}
+use Rattle.httparse.specs.Spans.{IsHeaderWithin, header_bytes}
+use Rattle.upgrade_head.proofs.FieldLemmas.{one_more}
+use Rattle.upgrade_head.proofs.field.Fields.first_named.Goals as goal
+
+pub fields-preserved : goal.fields-preserved
+fields-preserved c =
+    let name = c.args.name.now in
+    let head = c.args.self.head.now in
+    let cut = c.in-Some.ensures.cases in
+    let other = subst (λ (xs : List ℕ). str_eq_ignore_ascii_case xs name ≡ false) c.of.ensures (sym c.is_same.ensures ∙ c.if-is_same.false) in
+    record {
+      within = All-rest (IsHeaderWithin (length head)) _ _ c.fields.rest.now cut.0 c.fields.invariant.within;
+      same = c.fields.invariant.same ∙ one_more name (header_bytes head) _ _ c.fields.rest.now cut.0 other;
+      fewer = omega (arith, cut.1, c.fields.invariant.fewer);
+    }
