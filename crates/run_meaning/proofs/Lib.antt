@@ -1,0 +1,16 @@
+pub mod Parts
+pub mod Worlds
+pub mod Underway
+pub mod Ordering
+pub mod Serving
+pub mod Singles
+pub mod Growing
+pub mod Starts
+pub mod Kept
+pub mod Replies
+pub mod EventLemmas
+pub mod Lives
+pub mod EchoLemmas
+pub mod Throughout
+pub mod Staying
+pub mod Following

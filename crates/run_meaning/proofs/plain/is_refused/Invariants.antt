@@ -1,0 +1,8 @@
+use Rattle.std.proofs.Common.{◌≡◌, map, drop}
+use Rattle.ws_kinds.specs.NoteValue.{note_value}
+use Rattle.run_meaning.specs.Notes.{window}
+use Rattle.run_meaning.specs.Lines.{is_refused}
+use Rattle.run_meaning.proofs.plain.is_refused.Given as goal
+
+abbrev pub invariant-walk : goal.invariant-walk
+invariant-walk l = is_refused (window (map note_value (drop l.note-index l.notes))) l.conn.0 l.order ≡ is_refused (window (map note_value l.notes)) l.conn.0 l.order

@@ -1,0 +1,6 @@
+use Rattle.std.proofs.Common.{◌≡◌, map, take}
+use Rattle.ws_kinds.specs.NoteValue.{note_value}
+use Rattle.run_meaning.proofs.plain.recorded_notes.Given as goal
+
+abbrev pub invariant-walk : goal.invariant-walk
+invariant-walk l = map note_value l.notes.items ≡ take l.place l.recorder.notes

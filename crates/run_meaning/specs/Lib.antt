@@ -1,0 +1,15 @@
+pub mod Notes
+pub mod Counts
+pub mod Server
+pub mod Lines
+pub mod Kept
+pub mod Orders
+pub mod Serving
+pub mod Events
+pub mod Network
+pub mod Life
+pub mod Replies
+pub mod Settled
+pub mod Right
+pub mod Echo
+pub mod View
