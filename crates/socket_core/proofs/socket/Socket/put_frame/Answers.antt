@@ -1,0 +1,34 @@
+use Rattle.std.proofs.Common.{◌≡◌, ℕ, List, length, sym, ap, ◌∙◌, subst}
+use Rattle.ws_kinds.specs.NoteValue.{took}
+use Rattle.ws_kinds.specs.Watch.{IsNoted}
+use Rattle.link_trait.specs.Net.{Writes}
+use Rattle.link_trait.specs.declared.net.NetWrote.TheVariants.{Took as Accepted}
+use Rattle.hub_lines.proofs.StepLemmas.{moves_whole, others_took}
+use Rattle.hub_lines.proofs.CallLemmas.{noted_took}
+use Rattle.socket_core.specs.Items.{octets_of, can_drop}
+use Rattle.socket_core.proofs.socket.Socket.put_frame.Goals as goal
+
+pub returns-clause-moves : goal.returns-clause-moves
+returns-clause-moves g c good =
+    let same : c.deref.result.now ≡ octets_of c.args.item = c.deref.ensures.value ∙ c.spell.ensures.octets in
+    let size : c.len.result ≡ length (octets_of c.args.item) = c.len.ensures ∙ sym c.deref.ensures.len ∙ ap length same in
+    let written : Writes c.self.inside.conn.0 (octets_of c.args.item) (Accepted c.in-Took.count) (g.N.Net.state c.args.out.now.net) (g.N.Net.state c.write.new.self) =
+    subst (λ (z : List ℕ). Writes c.self.inside.conn.0 z (Accepted c.in-Took.count) (g.N.Net.state c.args.out.now.net) (g.N.Net.state c.write.new.self)) same c.in-Took.ensures.writes in
+    let noted : IsNoted (g.W.Watch.told c.args.out.now.watch) (took c.self.inside.conn.0 (length (octets_of c.args.item)) c.in-Took.count) (g.W.Watch.told c.note.new.self) =
+    subst (λ (z : ℕ). IsNoted (g.W.Watch.told c.args.out.now.watch) (took c.self.inside.conn.0 z c.in-Took.count) (g.W.Watch.told c.note.new.self)) size c.note.ensures in
+    rw (← c.self.view_is) (moves_whole c.self.inside.conn.0 c.self.inside.config.limit c.self.inside.numbered c.saturating_add-self-inside.result c.in-Took.count (octets_of c.args.item) (g.N.Net.state c.args.out.now.net) (g.N.Net.state c.write.new.self) (g.W.Watch.told c.args.out.now.watch) (g.W.Watch.told c.note.new.self) (can_drop c.args.item)
+    c.saturating_add-self-inside.ensures (c.in-Took.ensures.all ∙ ap length same) written noted)
+
+pub returns-clause-others : goal.returns-clause-others
+returns-clause-others g c =
+    let size : c.len.result ≡ length c.deref.result.now = c.len.ensures ∙ sym c.deref.ensures.len in
+    let noted : IsNoted (g.W.Watch.told c.args.out.now.watch) (took c.self.inside.conn.0 (length c.deref.result.now) c.in-Took.count) (g.W.Watch.told c.note.new.self) =
+    subst (λ (z : ℕ). IsNoted (g.W.Watch.told c.args.out.now.watch) (took c.self.inside.conn.0 z c.in-Took.count) (g.W.Watch.told c.note.new.self)) size c.note.ensures in
+    rw (← c.self.view_is) (others_took c.self.inside.conn.0 c.in-Took.count c.deref.result.now (g.N.Net.state c.args.out.now.net) (g.N.Net.state c.write.new.self) (g.W.Watch.told c.args.out.now.watch) (g.W.Watch.told c.note.new.self) c.in-Took.ensures.writes noted)
+
+pub returns-clause-noted : goal.returns-clause-noted
+returns-clause-noted g c =
+    let size : c.len.result ≡ length c.deref.result.now = c.len.ensures ∙ sym c.deref.ensures.len in
+    let noted : IsNoted (g.W.Watch.told c.args.out.now.watch) (took c.self.inside.conn.0 (length c.deref.result.now) c.in-Took.count) (g.W.Watch.told c.note.new.self) =
+    subst (λ (z : ℕ). IsNoted (g.W.Watch.told c.args.out.now.watch) (took c.self.inside.conn.0 z c.in-Took.count) (g.W.Watch.told c.note.new.self)) size c.note.ensures in
+    noted_took c.self.inside.conn.0 c.in-Took.count c.deref.result.now (g.N.Net.state c.args.out.now.net) (g.N.Net.state c.write.new.self) (g.W.Watch.told c.args.out.now.watch) (g.W.Watch.told c.note.new.self) c.in-Took.ensures.writes noted

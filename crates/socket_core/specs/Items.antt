@@ -1,0 +1,44 @@
+-- What is put for a connection, and the item of those that a server sends which it is.
+use Rattle.std.specs.Prelude.{◌≡◌, ◌≤◌, ◌+◌, ℕ, IsTrue, Bool, true, false, not, ◌==◌, ◌||◌, if◌then◌else◌, List, ◌++◌, length}
+use Rattle.ws_kinds.specs.ConfigValue.{ConfigValue}
+use Rattle.wire_meaning.specs.declared.frame.Opcode.{Opcode}
+use Rattle.wire_meaning.specs.Frame.{header, opcode_number}
+use Rattle.wire_meaning.specs.Answer.{Item as Sent, reply, whole, spelled}
+use Rattle.hub_lines.specs.Items.{can_drop as may_drop}
+use Rattle.frame_writer.specs.Header.{is_sent_opcode}
+use Rattle.socket_core.specs.declared.item.Item.{Item}
+use Rattle.socket_core.specs.declared.item.Item.TheVariants.{Reply, Spelled, Frame}
+
+-- the octets of an item: a frame's header and then its payload
+abbrev pub octets_of : Item → List ℕ
+octets_of (Reply text) = text.now
+octets_of (Spelled frame) = frame.now
+octets_of (Frame opcode payload) = header opcode (length payload.now) ++ payload.now
+
+-- replies and close frames, whose opcode is 8, are never dropped
+abbrev pub can_drop : Item → Bool
+can_drop (Reply text) = false
+can_drop (Spelled frame) = true
+can_drop (Frame opcode payload) = not (opcode == 8)
+
+-- the item is this one of those that a server sends
+abbrev pub IsSent : Item → Sent → Type 0
+IsSent (Reply text) sent = sent ≡ reply text.now
+IsSent (Spelled frame) sent = (may_drop sent ≡ true) × (spelled sent ≡ frame.now)
+IsSent (Frame number payload) sent = IsTrue (is_sent_opcode number) × ((opcode : Opcode) × (opcode_number opcode ≡ number) × (sent ≡ whole opcode payload.now))
+
+-- the most octets that a frame's payload has: those of a message, or 125 in a control frame (5.5)
+abbrev pub longest_payload : ConfigValue → ℕ → ℕ
+longest_payload config opcode = if opcode == 1 || opcode == 2 then config.max_message else 125
+
+-- an item that may be put after so many others
+abbrev pub IsPuttable : ConfigValue → ℕ → Item → Type 0
+IsPuttable config numbered (Reply text) = (1 ≤ length text.now) × (length text.now ≤ 256) × (numbered ≡ 0)
+IsPuttable config numbered (Spelled frame) = (1 ≤ length frame.now) × (length frame.now ≤ config.max_message + 10)
+IsPuttable config numbered (Frame opcode payload) = IsTrue (is_sent_opcode opcode) × (length payload.now ≤ longest_payload config opcode)
+
+-- a room of so many octets is enough for it, and a frame has a header
+abbrev pub HasRoom : ℕ → Item → Type 0
+HasRoom room (Reply text) = length text.now ≤ room
+HasRoom room (Spelled frame) = length frame.now ≤ room
+HasRoom room (Frame opcode payload) = IsTrue (is_sent_opcode opcode) × (length payload.now ≤ 65536) × (10 + length payload.now ≤ room)

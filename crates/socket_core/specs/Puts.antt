@@ -1,0 +1,57 @@
+-- What putting an item answers, and what it leaves of the net.
+use Rattle.std.specs.Prelude.{◌≡◌, ◌≢◌, ◌≤◌, ℕ, List, [], Option, true, length, ⊤}
+use Rattle.ws_kinds.specs.NoteValue.{NoteValue, took}
+use Rattle.ws_kinds.specs.Watch.{IsNoted}
+use Rattle.link_trait.specs.Link.{Rose}
+use Rattle.link_trait.specs.NetState.{NetState}
+use Rattle.link_trait.specs.Net.{Same, SameBut, SameNet, SameTrafficBut, Writes}
+use Rattle.link_trait.specs.declared.net.NetWrote.TheVariants.{Took as Accepted, Failed as WriteFailed}
+use Rattle.socket_core.specs.declared.socket.Kept.{Kept}
+use Rattle.socket_core.specs.declared.socket.Kept.TheVariants.{Clear, Backlog, Dropped, Failed}
+
+-- Clear exactly where nothing is held back, else the number of octets held. No item is dropped yet.
+abbrev pub TellsRing : Kept → List ℕ → Type 0
+TellsRing Clear ring = ring ≡ []
+TellsRing (Backlog held) ring = (ring ≢ []) × (held ≡ length ring)
+TellsRing (Dropped held) ring = ⊥
+TellsRing Failed ring = ⊤
+
+-- a write of the connection failed: the net counted a fault, and no note was told
+pub record BreaksLink (conn : ℕ) (old new : NetState) (old_told new_told : Option (List NoteValue)) : Type 0 where
+  pub faults : Rose old.faults new.faults
+  pub broken : old.tells ≡ true → new.broken conn ≡ true
+  pub told : new_told ≡ old_told
+
+-- no write of the connection failed
+pub record LeavesLinkWhole (conn : ℕ) (old new : NetState) : Type 0 where
+  pub faults : new.faults ≡ old.faults
+  pub broken : old.tells ≡ true → new.broken conn ≡ old.broken conn
+
+-- Failed exactly where the connection's write failed
+abbrev pub TellsFailure : Kept → ℕ → NetState → NetState → Option (List NoteValue) → Option (List NoteValue) → Type 0
+TellsFailure Failed conn old new old_told new_told = BreaksLink conn old new old_told new_told
+TellsFailure _ conn old new old_told new_told = LeavesLinkWhole conn old new
+
+-- where the net tells: writes of one connection change nothing of the others, and are neither reads nor answers of `next`
+pub record WritesAlone (conn : ℕ) (old new : NetState) : Type 0 where
+  pub elsewhere : SameTrafficBut conn old new
+  pub given : new.given conn ≡ old.given conn
+  pub ended : new.ended conn ≡ old.ended conn
+  pub passed : new.passed ≡ old.passed
+  pub rested : new.rested ≡ old.rested
+
+-- what writes of one connection leave of the net
+pub record KeepsNet (conn : ℕ) (old new : NetState) : Type 0 where
+  pub net : SameNet old new
+  pub told : old.tells ≡ true → WritesAlone conn old new
+  pub live : Same old.live new.live
+  pub named : new.named ≡ old.named
+  pub due : Same old.due new.due
+  pub writable : SameBut conn old.writable new.writable
+  pub room : new.room ≤ old.room
+  pub port : new.port ≡ old.port
+
+-- the octets are offered in one write, which took them and is noted, or which failed
+abbrev pub OffersOnce : Kept → ℕ → List ℕ → NetState → NetState → Option (List NoteValue) → Option (List NoteValue) → Type 0
+OffersOnce Failed conn octets old new old_told new_told = Writes conn octets WriteFailed old new × (new_told ≡ old_told)
+OffersOnce _ conn octets old new old_told new_told = Writes conn octets (Accepted (length octets)) old new × IsNoted old_told (took conn (length octets) (length octets)) new_told
