@@ -1,0 +1,4 @@
+pub mod Status
+pub mod Words
+pub mod Echo
+pub mod Answers
