@@ -4,3 +4,4 @@ pub mod MiddleLemmas
 pub mod StepLemmas
 pub mod EnterLemmas
 pub mod ControlLemmas
+pub mod RawLemmas

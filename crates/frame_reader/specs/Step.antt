@@ -1,5 +1,5 @@
 -- What `next` tells, and what a reader is once its loan is over.
-use Rattle.std.specs.Prelude.{◌≡◌, ℕ, ◌≤◌, Bool, true, false, ◌||◌, List, [], ◌∷◌, ◌++◌, length}
+use Rattle.std.specs.Prelude.{◌≡◌, ℕ, ◌+◌, ◌≤◌, Bool, true, false, ◌||◌, List, [], ◌∷◌, ◌++◌, length}
 use Rattle.std.specs.Borrow.{MutBor, Fml}
 use Rattle.std.specs.Io.BufRead.{Rests}
 use Rattle.wire_meaning.specs.Event.{Event, message, ping, pong, closed, failed}
@@ -7,7 +7,7 @@ use Rattle.frame_reader.specs.declared.step.Step.{Step}
 use Rattle.frame_reader.specs.declared.step.Step.TheVariants as step
 use Rattle.frame_reader.specs.declared.reader.Reader.{Reader}
 use Rattle.frame_reader.specs.contracts.reader.Reader.{the_row}
-use Rattle.frame_reader.specs.Reader.{raw_of, room_of, ahead, has_ended}
+use Rattle.frame_reader.specs.Reader.{raw_of, room_of, max_of, ahead, has_ended}
 
 -- the event of a step; `More` has none
 abbrev pub events_of : Step → List Event
@@ -41,6 +41,9 @@ pub record HasStepped (old : Reader) (s : Step) (new : Reader) : Type 0 where
   pub few : IsMore s → has_ended old ≡ false → length (raw_of new) ≤ 130
   pub ended : has_ended new ≡ (has_ended old || is_last s)
   pub room : room_of old ≤ room_of new
+  -- so there is room for all that fits but these few
+  pub room_left : IsMore s → has_ended old ≡ false → max_of new + 8318 ≤ room_of new
+  pub max : max_of new ≡ max_of old
 
 abbrev pub RestsStepped : MutBor Reader → Step → Fml
 RestsStepped reader s = Rests the_row reader (λ new. HasStepped reader.now s new)

@@ -166,7 +166,7 @@ fn go_on_with(message: &mut Vec<u8>, utf8: &mut Utf8, before: Option<Kind>)
 }
 
 impl Reader {
-    ghost use Rattle.frame_reader.specs.Reader.{raw_of, ahead, room_of, has_ended};
+    ghost use Rattle.frame_reader.specs.Reader.{raw_of, max_of, ahead, room_of, has_ended, is_unread};
     ghost use Rattle.frame_reader.specs.Turn.{Tells, TurnIs, Keeps, Waits, HasTold, last, burden};
     ghost use Rattle.frame_reader.specs.Step.{RestsStepped};
 
@@ -178,6 +178,9 @@ impl Reader {
         ensures ahead { IfOk result (λ reader. (more : List ℕ) → ahead reader more ≡ reading max_message more) }
         ensures room { IfOk result (λ reader. room_of reader ≡ max_message + 8448) }
         ensures goes_on { IfOk result (λ reader. has_ended reader ≡ false) }
+        ensures raw { IfOk result (λ reader. raw_of reader ≡ []) }
+        ensures unread { IfOk result (λ reader. is_unread reader ≡ true) }
+        ensures max { IfOk result (λ reader. max_of reader ≡ max_message) }
     {
         Ok(Reader {
             max_message,
@@ -204,6 +207,9 @@ impl Reader {
         ensures ahead { (more : List ℕ) → ahead self.new more ≡ ahead self.old (octets.now ++ more) }
         ensures room { room_of self.new + length octets.now ≡ room_of self.old }
         ensures same { has_ended self.new ≡ has_ended self.old }
+        ensures raw { raw_of self.new ≡ raw_of self.old ++ octets.now }
+        ensures unread { is_unread self.new ≡ is_unread self.old }
+        ensures max { max_of self.new ≡ max_of self.old }
     {
         if self.raw.len() + octets.len() > self.max_message as usize + SPARE {
             self.settle();
@@ -211,6 +217,37 @@ impl Reader {
         if self.raw.extend_from_slice(octets).is_err() {
             unreachable!();
         }
+    }
+
+    /// The octets that came and were not taken yet.
+    ///
+    /// Before the first [`Reader::next`] these are all that [`Reader::feed`] took, less those that [`Reader::skip`] took
+    /// off. So the head of the request that a connection begins with can be looked for in them (RFC 6455, section 4.1).
+    /// After `More` they are at most 130, unless a `Close` or `Failed` was told.
+    pub fn raw(&self) -> &[u8]
+        ensures raw { result.now ≡ raw_of self.now }
+        ensures room { room_of self.now + length (raw_of self.now) ≡ max_of self.now + 8448 }
+        ensures unread { is_unread self.now ≡ true → (more : List ℕ) → ahead self.now more ≡ reading (max_of self.now) (raw_of self.now ++ more) }
+    {
+        &self.raw[self.start..]
+    }
+
+    /// Takes the first `count` of the raw octets off, none or at most all of them, without reading them. The frames begin
+    /// behind them, as they do behind the head of a request (RFC 6455, section 4.1).
+    ///
+    /// The reader has to be unread: no frame is begun, no message is open, and no `Close` or `Failed` was told. A new one
+    /// is, and stays so while only [`Reader::feed`] and this are called. There is then so much more room.
+    pub fn skip(&mut self, count: usize)
+        requires unread { is_unread self.old ≡ true }
+        requires within { count ≤ length (raw_of self.old) }
+        ensures raw { raw_of self.new ≡ drop count (raw_of self.old) }
+        ensures ahead { (more : List ℕ) → ahead self.new more ≡ reading (max_of self.old) (drop count (raw_of self.old) ++ more) }
+        ensures room { room_of self.new ≡ room_of self.old + count }
+        ensures same { has_ended self.new ≡ has_ended self.old }
+        ensures unread { is_unread self.new ≡ true }
+        ensures max { max_of self.new ≡ max_of self.old }
+    {
+        self.start += count;
     }
 
     /// Moves the raw octets that were not taken to the front.
@@ -361,7 +398,7 @@ impl Reader {
         ensures kept { Keeps self.old self.new }
     {
         let before = self.before(kind);
-        match header_at(before, self.untaken()) {
+        match header_at(before, self.raw()) {
             Header::More => Turn::Wait,
             Header::Refused(code) => {
                 self.state = State::Ended;
@@ -369,13 +406,6 @@ impl Reader {
             }
             Header::Whole(header) => self.frame_turn(kind, header),
         }
-    }
-
-    /// The octets that came and were not taken yet.
-    fn untaken(&self) -> &[u8]
-        ensures { result.now ≡ raw_of self.now }
-    {
-        &self.raw[self.start..]
     }
 
     /// What the next frame is judged by, where a message of this kind is open.

@@ -1,7 +1,12 @@
+ghost use Rattle.std.specs.Prelude.{◌≡◌, ◌<◌, ◌≤◌, ◌+◌, ◌++◌, ℕ, List, [], length, take, drop, true, false};
+ghost use Rattle.wire_meaning.specs.Reading.{reading};
+ghost use Rattle.frame_reader.specs.Reader.{raw_of, max_of, room_of, ahead, is_unread, has_ended};
+
 use super::*;
 use std::alloc::{AllocError, Global};
 use std::test::*;
 use wire_meaning::{OwnedEvent, plain_reading};
+use ws_kinds::Kind;
 
 const MAX: u32 = 16_384;
 
@@ -84,6 +89,8 @@ const KEPT: [&[u8]; 9] = [
     b"\x01\x83\0\0\0\0\xf0\x9f\x8d",
 ];
 
+const HEAD: &[u8] = b"GET / HTTP/1.1\r\n\r\n";
+
 // What ends a reading. Nothing that follows is read.
 const ENDED: [&[u8]; 20] = [
     b"\xc1\x80",
@@ -138,4 +145,91 @@ fn room_falls_by_what_came_and_rises_as_it_is_taken(rt: HostRuntime) -> Result<(
     assert!(rt; matches!(reader.next(), Step::More));
     assert_eq!(rt; reader.room(), 8453);
     Ok(())
+}
+
+/// Takes as many of the octets as there is room for, which is one at least.
+fn feed_some(reader: &mut Reader, octets: &[u8]) -> usize
+    requires few { length (raw_of reader.old) ≤ 8191 }
+    requires unread { is_unread reader.old ≡ true }
+    ensures some { 0 < length octets.now → 0 < result }
+    ensures raw { raw_of reader.new ≡ raw_of reader.old ++ take result octets.now }
+    ensures unread { is_unread reader.new ≡ true }
+    ensures max { max_of reader.new ≡ max_of reader.old }
+{
+    let count = reader.room().min(octets.len());
+    reader.feed(&octets[..count]);
+    count
+}
+
+/// Takes three pieces, and skips the head, of so many octets, which they begin with. Says whether it is there.
+fn skip_head(reader: &mut Reader, one: &[u8], two: &[u8], three: &[u8], head: usize) -> bool
+    requires fits { length one.now + (length two.now + length three.now) ≤ room_of reader.old }
+    requires unread { is_unread reader.old ≡ true }
+    ensures ahead { result ≡ true → (more : List ℕ) → ahead reader.new more ≡ reading (max_of reader.old) (drop head (raw_of reader.old ++ one.now ++ two.now ++ three.now) ++ more) }
+    ensures goes_on { has_ended reader.new ≡ has_ended reader.old }
+{
+    reader.feed(one);
+    reader.feed(two);
+    reader.feed(three);
+    if reader.raw().len() < head {
+        return false;
+    }
+    reader.skip(head);
+    true
+}
+
+/// A reader behind a head that is cut here tells the events of the plain reading of the octets.
+fn reads_behind_head(alloc: Global, octets: &[u8], cut: usize) -> Result<bool, AllocError> {
+    let events = plain_reading(alloc, MAX, octets)?;
+    let mut reader = Reader::new(alloc, MAX)?;
+    let Some((one, two)) = HEAD.split_at_checked(cut) else {
+        return Ok(false);
+    };
+    if octets.len() > 8192 || !skip_head(&mut reader, one, two, octets, HEAD.len()) {
+        return Ok(false);
+    }
+    let mut at = 0;
+    Ok(tells_next(&mut reader, b"", &events, &mut at) && at == events.len())
+}
+
+/// The next step is `More`, after which there is room.
+fn awaits_more(reader: &mut Reader) -> bool
+    requires { has_ended reader.old ≡ false }
+    ensures room { result ≡ true → max_of reader.old + 8318 ≤ room_of reader.new }
+{
+    match reader.next() {
+        Step::More => true,
+        _ => false,
+    }
+}
+
+#[test]
+fn a_head_in_three_pieces_is_seen_and_skipped(rt: HostRuntime) -> Result<(), Fail> {
+    let mut reader = Reader::new(rt.alloc(), 5).ok().ok_or("memory")?;
+    assert!(rt; reader.raw() == b"".as_slice());
+    reader.feed(b"GET / HT");
+    assert!(rt; reader.raw() == b"GET / HT".as_slice());
+    assert_eq!(rt; feed_some(&mut reader, b"TP/1.1\r\n"), 8);
+    assert!(rt; reader.raw() == b"GET / HTTP/1.1\r\n".as_slice());
+    reader.feed(b"\r\n\x81\x85\0\0\0\0He");
+    assert!(rt; reader.raw() == b"GET / HTTP/1.1\r\n\r\n\x81\x85\0\0\0\0He".as_slice());
+    assert_eq!(rt; reader.room(), 8427);
+    reader.skip(18);
+    assert!(rt; reader.raw() == b"\x81\x85\0\0\0\0He".as_slice());
+    assert_eq!(rt; reader.room(), 8445);
+    assert!(rt; awaits_more(&mut reader));
+    reader.feed(b"llo");
+    assert!(rt; matches!(reader.next(), Step::Message(Kind::Text, b"Hello")));
+    assert!(rt; matches!(reader.next(), Step::More));
+    Ok(())
+}
+
+#[test]
+fn behind_every_cut_of_a_head_the_plain_reading_is_told(rt: HostRuntime) {
+    for octets in KEPT.iter().chain(ENDED.iter()) {
+        for cut in 0..=HEAD.len() {
+            let same = reads_behind_head(rt.alloc(), octets, cut);
+            assert!(rt; matches!(same, Ok(true)), "{octets:?} at {cut}");
+        }
+    }
 }

@@ -13,8 +13,8 @@ returns-in-More-clause-turn c =
       record {
         all = coming_before c.args.self.now.max_message c.args.self.now.state c.args.kind c.args.self.now.message.items (raw_of c.args.self.now ++ []) c.requires.state
             ∙ awaited_at c.args.self.now.max_message (begun_of c.args.kind c.args.self.now.message.items) (raw_of c.args.self.now)
-            (same_front_at c.before-before.result.max_message c.args.self.now.max_message (begun_of c.args.kind c.args.self.now.message.items) c.untaken.result.now (raw_of c.args.self.now) more c.before-before.ensures.max c.untaken.ensures said.0);
-        few = subst (λ (l : List ℕ). length l ≤ 130) c.untaken.ensures (omega (arith, said.1));
+            (same_front_at c.before-before.result.max_message c.args.self.now.max_message (begun_of c.args.kind c.args.self.now.message.items) c.raw.result.now (raw_of c.args.self.now) more c.before-before.ensures.max c.raw.ensures.raw said.0);
+        few = subst (λ (l : List ℕ). length l ≤ 130) c.raw.ensures.raw (omega (arith, said.1));
         goes_on = ap is_end c.requires.state;
       },
     )
@@ -26,7 +26,7 @@ returns-in-Refused-clause-turn c =
       tells = λ behind_it.
           coming_before c.args.self.now.max_message c.args.self.now.state c.args.kind c.args.self.now.message.items (raw_of c.args.self.now ++ behind_it) c.requires.state
           ∙ refused_at c.args.self.now.max_message (begun_of c.args.kind c.args.self.now.message.items) (raw_of c.args.self.now) c.in-Refused.code
-          (same_front_at c.before-before.result.max_message c.args.self.now.max_message (begun_of c.args.kind c.args.self.now.message.items) c.untaken.result.now (raw_of c.args.self.now) (ends (failed c.in-Refused.code)) c.before-before.ensures.max c.untaken.ensures said)
+          (same_front_at c.before-before.result.max_message c.args.self.now.max_message (begun_of c.args.kind c.args.self.now.message.items) c.raw.result.now (raw_of c.args.self.now) (ends (failed c.in-Refused.code)) c.before-before.ensures.max c.raw.ensures.raw said)
           behind_it;
       lent = omega arith;
       ended = refl;
