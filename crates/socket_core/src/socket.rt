@@ -1,13 +1,14 @@
 //! A connection's socket.
 
-ghost use Rattle.std.specs.Prelude.{◌≡◌, ◌≢◌, ◌+◌, ◌-◌, ◌^◌, [], ◌∷◌, true, min, IfOk};
+ghost use Rattle.std.specs.Prelude.{◌≡◌, ◌≢◌, ◌+◌, ◌-◌, ◌^◌, [], ◌∷◌, true, min, length, IfOk};
 ghost use Rattle.ws_kinds.specs.declared.note.Phase.TheVariants as phases;
 ghost use Rattle.hub_lines.specs.Told.{WritesAreNoted, ShortWhereHeld};
 ghost use Rattle.hub_lines.specs.State.{new_entry};
 ghost use Rattle.hub_lines.specs.Moves.{Moves, Others, buffered_of};
 ghost use Rattle.socket_core.specs.Items.{octets_of, can_drop, IsPuttable};
 ghost use Rattle.socket_core.specs.Phases.{can_enter};
-ghost use Rattle.socket_core.specs.Puts.{TellsRing, TellsFailure, OffersOnce, KeepsNet};
+ghost use Rattle.hub_notes.specs.Fronts.{FailsWithin};
+ghost use Rattle.socket_core.specs.Puts.{TellsRing, TellsFailure, OffersNoted, OffersOnce, KeepsNet};
 
 use crate::item::{Item, spell};
 use link_trait::{Net, NetWrote, Outside};
@@ -94,6 +95,13 @@ impl Socket {
         // Each write that took is noted.
         ensures noted { WritesAreNoted (N.state out.old.net) (W.told out.old.watch) → WritesAreNoted (N.state out.new.net) (W.told out.new.watch) }
 
+        // Nothing else is noted, and the link took what the notes say.
+        ensures offers { OffersNoted self.old.conn (N.state out.old.net) (N.state out.new.net) (W.told out.old.watch) (W.told out.new.watch) }
+
+        // Where a write fails, the link took a front of the line with this item behind it.
+        ensures front { result ≡ Kept.Failed → FailsWithin self.old.conn (octets_of item.entry ∷ []) (buffered_of self.old [])
+            (N.state out.old.net) (N.state out.new.net) (W.told out.old.watch) (W.told out.new.watch) }
+
         // Octets are held back only after a short write.
         ensures short { result ≢ Kept.Failed → ShortWhereHeld self.old.conn self.old.ring (W.told out.old.watch) → ShortWhereHeld self.old.conn self.new.ring (W.told out.new.watch) }
 
@@ -140,6 +148,14 @@ impl Socket {
         ensures { result ≡ self.now.phase }
     {
         self.phase
+    }
+
+    /// How many octets its link did not take: none yet.
+    pub fn ring_length(&self) -> u64
+        ensures { result ≡ length self.now.ring }
+    {
+        let _ = &self.octets;
+        0
     }
 
     /// The connection goes on to a phase, to which a step leads from the one that it is in: from Head to Open or Ending, from

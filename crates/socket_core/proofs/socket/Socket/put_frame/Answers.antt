@@ -6,6 +6,7 @@ use Rattle.link_trait.specs.declared.net.NetWrote.TheVariants.{Took as Accepted}
 use Rattle.hub_lines.proofs.StepLemmas.{moves_whole, others_took}
 use Rattle.hub_lines.proofs.CallLemmas.{noted_took}
 use Rattle.socket_core.specs.Items.{octets_of, can_drop}
+use Rattle.socket_core.proofs.OfferLemmas.{offers_took, front_failed}
 use Rattle.socket_core.proofs.socket.Socket.put_frame.Goals as goal
 
 pub returns-clause-moves : goal.returns-clause-moves
@@ -32,3 +33,16 @@ returns-clause-noted g c =
     let noted : IsNoted (g.W.Watch.told c.args.out.now.watch) (took c.self.inside.conn.0 (length c.deref.result.now) c.in-Took.count) (g.W.Watch.told c.note.new.self) =
     subst (λ (z : ℕ). IsNoted (g.W.Watch.told c.args.out.now.watch) (took c.self.inside.conn.0 z c.in-Took.count) (g.W.Watch.told c.note.new.self)) size c.note.ensures in
     noted_took c.self.inside.conn.0 c.in-Took.count c.deref.result.now (g.N.Net.state c.args.out.now.net) (g.N.Net.state c.write.new.self) (g.W.Watch.told c.args.out.now.watch) (g.W.Watch.told c.note.new.self) c.in-Took.ensures.writes noted
+
+pub returns-in-Failed-clause-front : goal.returns-in-Failed-clause-front
+returns-in-Failed-clause-front g c =
+    rw (← c.self.view_is) (λ failed few pending items stands.
+    front_failed c.self.inside.conn.0 c.deref.result.now _ (g.N.Net.state c.args.out.now.net) (g.N.Net.state c.write.new.self) (g.W.Watch.told c.args.out.now.watch) items
+    c.in-Failed.ensures.writes few stands)
+
+pub returns-clause-offers : goal.returns-clause-offers
+returns-clause-offers g c =
+    let size : c.len.result ≡ length c.deref.result.now = c.len.ensures ∙ sym c.deref.ensures.len in
+    let noted : IsNoted (g.W.Watch.told c.args.out.now.watch) (took c.self.inside.conn.0 (length c.deref.result.now) c.in-Took.count) (g.W.Watch.told c.note.new.self) =
+    subst (λ (z : ℕ). IsNoted (g.W.Watch.told c.args.out.now.watch) (took c.self.inside.conn.0 z c.in-Took.count) (g.W.Watch.told c.note.new.self)) size c.note.ensures in
+    rw (← c.self.view_is) (offers_took c.self.inside.conn.0 c.in-Took.count c.deref.result.now (g.N.Net.state c.args.out.now.net) (g.N.Net.state c.write.new.self) (g.W.Watch.told c.args.out.now.watch) (g.W.Watch.told c.note.new.self) c.in-Took.ensures.writes noted)

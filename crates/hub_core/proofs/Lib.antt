@@ -1,0 +1,11 @@
+pub mod TableSteps
+pub mod SentLemmas
+pub mod ItemLemmas
+pub mod StateLemmas
+pub mod PutLemmas
+pub mod LeaveLemmas
+pub mod FailLemmas
+pub mod NoteLemmas
+pub mod CallLemmas
+pub mod TurnLemmas
+pub mod OrderLemmas

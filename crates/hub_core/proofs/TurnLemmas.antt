@@ -1,0 +1,234 @@
+-- Connections that are finished, one after another, as a turn ends.
+use Rattle.std.proofs.Common.{◌≡◌, ◌≢◌, ◌<◌, ◌≤◌, ◌+◌, ◌-◌, ◌^◌, ℕ, List, [], ◌∷◌, ◌++◌, Option, Some, None, Bool, true, false, cond, not, ◌||◌, nat_eq, nat_lt, refl, sym, ap, ◌∙◌, subst, append-nil, arith}
+use Rattle.std.proofs.lemmas.Bool.Decides.{nat_tests}
+use Rattle.ws_kinds.specs.declared.note.Left.TheVariants.{Finished}
+use Rattle.ws_kinds.specs.declared.note.Phase.{Phase}
+use Rattle.ws_kinds.specs.declared.note.Phase.TheVariants.{Ending}
+use Rattle.ws_kinds.specs.NoteValue as note
+use Rattle.ws_kinds.specs.NoteValue.{NoteValue}
+use Rattle.ws_kinds.specs.Watch.{IsNoted}
+use Rattle.link_trait.specs.NetState.{NetState}
+use Rattle.wire_meaning.specs.Answer.{Item}
+use Rattle.run_meaning.specs.Counts.{has_number}
+use Rattle.hub_lines.specs.Told.{taken_of, is_dropped}
+use Rattle.hub_lines.specs.Items.{joined}
+use Rattle.hub_lines.specs.State.{HubState, Entry, Server, server, is_gone, has_entry, entry_of, is_present, phase_at, entry_at, ring_at, cork_at, pending_at}
+use Rattle.hub_lines.specs.Lines.{StandsFor}
+use Rattle.hub_lines.specs.Calls.{nothing}
+use Rattle.hub_lines.proofs.EntryLemmas.{present_entry}
+use Rattle.hub_lines.proofs.KeptLemmas.{kept_same}
+use Rattle.hub_notes.specs.NetAfter.{FailsAfter}
+use Rattle.hub_notes.specs.Fronts.{TakesAll, SameDrops, items_at}
+use Rattle.hub_notes.specs.Calls.{Advances, Appends}
+use Rattle.hub_notes.proofs.BoolLemmas.{by_cases, clash}
+use Rattle.hub_notes.proofs.NetLemmas.{fails_then, fails_same}
+use Rattle.hub_notes.proofs.CallLemmas.{advances_then, advances_same, proceeds_last}
+use Rattle.hub_notes.proofs.FrontLemmas.{appends_before_nothing, appends_same}
+use Rattle.hub_table.specs.Table.{TableState, IsTable}
+use Rattle.hub_core.specs.State.{server_of}
+use Rattle.hub_core.specs.Turns.{Rise, finishes, FinishesOne, FinishesIfEmpty, EndsTurn}
+use Rattle.hub_core.proofs.NoteLemmas.{advances_noted, fails_noted}
+use Rattle.hub_core.proofs.CallLemmas.{notes_nobody, appends_quiet}
+
+-- these were finished, in order, the last one with a number up to `after`; who is still ending up to there holds octets
+pub record Finishing (after : ℕ) (old new : Server) : Type 0 where
+  pub finished : List ℕ
+  pub rising : Rise 0 finished
+  pub last : (c : ℕ) → has_number c finished ≡ true → c ≤ after
+  pub advances : Advances (finishes finished) old new
+  pub fails : FailsAfter (finishes finished) old.net new.net
+  pub appends : Appends nothing old new
+  pub away : (c : ℕ) → has_number c finished ≡ true → is_present new.hub c ≡ false
+  pub known : (c : ℕ) → has_number c finished ≡ true → c ≤ old.hub.named
+  pub whole : (c : ℕ) → has_number c finished ≡ true → items_at old.hub c < 2 ^ 64 - 1 → (items : List Item) → StandsFor c old items → TakesAll c items new.net new.told
+  pub below : (c : ℕ) → c ≤ after → (entry_at new.hub c).phase ≡ Ending → ring_at new.hub c ≢ []
+
+-- ---- lists of numbers
+
+no : {A : Type 0} → false ≡ true → A
+no e = clash false refl e
+
+or_false : (b : Bool) → b ≡ (b || false)
+or_false true = refl
+or_false false = refl
+
+or_assoc : (a b d : Bool) → (a || (b || d)) ≡ ((a || b) || d)
+or_assoc true b d = refl
+or_assoc false b d = refl
+
+same : (n : ℕ) → nat_eq n n ≡ true
+same n = grind (arith, nat_tests)
+
+or_true : (b : Bool) → (b || true) ≡ true
+or_true true = refl
+or_true false = refl
+
+has_more : (c d : ℕ) (ns : List ℕ) → has_number c (ns ++ d ∷ []) ≡ (has_number c ns || nat_eq c d)
+has_more c d [] = sym (or_false (nat_eq c d))
+has_more c d (n ∷ ns) = ap (λ (z : Bool). nat_eq c n || z) (has_more c d ns) ∙ or_assoc (nat_eq c n) (has_number c ns) (nat_eq c d)
+
+here : (n : ℕ) (rest : Bool) → (nat_eq n n || rest) ≡ true
+here n rest = ap (λ (z : Bool). z || rest) (same n)
+
+there : (d n : ℕ) (ns : List ℕ) → has_number d ns ≡ true → (nat_eq d n || has_number d ns) ≡ true
+there d n ns e = ap (λ (z : Bool). nat_eq d n || z) e ∙ or_true (nat_eq d n)
+
+one_of : {A : Type 0} (d c : ℕ) (ns : List ℕ) → (has_number d ns ≡ true → A) → (d ≡ c → A) → has_number d (ns ++ c ∷ []) ≡ true → A
+one_of d c ns first last e = by_cases (has_number d ns) first (λ f.
+    last (let h : (false || nat_eq d c) ≡ true = ap (λ (z : Bool). z || nat_eq d c) (sym f) ∙ sym (has_more d c ns) ∙ e in grind (arith, nat_tests)))
+
+at_or_below : {A : Type 0} (d after c : ℕ) → d ≤ c → (d ≤ after → A) → (after < d → d < c → A) → (d ≡ c → A) → A
+at_or_below d after c few low mid high = by_cases (nat_eq d c)
+    (λ e. high (grind (arith, nat_tests)))
+    (λ e. by_cases (nat_lt after d) (λ z. mid (grind (arith, nat_tests)) (grind (arith, nat_tests))) (λ z. low (grind (arith, nat_tests))))
+
+known_later : (d : ℕ) (old mid : Server) → Appends nothing old mid → d ≤ old.hub.named → d ≤ mid.hub.named
+known_later d old mid x few = let n = x.lines.named in omega arith
+
+stays_away : (d : ℕ) (mid new : Server) → Appends nothing mid new → d ≤ mid.hub.named → is_present mid.hub d ≡ false → is_present new.hub d ≡ false
+stays_away d mid new x few away = by_cases (is_present new.hub d)
+    (λ e. clash (is_present mid.hub d) away ((x.lines.lines d few).present e))
+    (λ e. e)
+
+counted : (i j last : ℕ) → (i + 0 < last → j ≡ i + 0) → i < last → j < last
+counted i j last h few = let g : i + 0 < last = omega arith in let k = h g in omega arith
+
+fewer : (c : ℕ) (old mid : Server) → Appends nothing old mid → c ≤ old.hub.named → is_present mid.hub c ≡ true → items_at old.hub c < 2 ^ 64 - 1 → items_at mid.hub c < 2 ^ 64 - 1
+fewer c old mid x few there e = counted (items_at old.hub c) (items_at mid.hub c) 18446744073709551615 ((x.fronts c few).count there) e
+
+stood : (c : ℕ) (old mid : Server) → Appends nothing old mid → c ≤ old.hub.named → is_present mid.hub c ≡ true → (items : List Item) → StandsFor c old items → StandsFor c mid items
+stood c old mid x few there items s = subst (λ (z : List Item). StandsFor c mid z) (append-nil items) ((x.lines.lines c few).stands there items s)
+
+finishes_more : (ns : List ℕ) (c : ℕ) → finishes (ns ++ c ∷ []) ≡ finishes ns ++ note.gone c Finished ∷ []
+finishes_more [] c = refl
+finishes_more (n ∷ ns) c = ap (λ (z : List NoteValue). note.gone n Finished ∷ z) (finishes_more ns c)
+
+rise_more : (least c : ℕ) (ns : List ℕ) → least < c → ((d : ℕ) → has_number d ns ≡ true → d < c) → Rise least ns → Rise least (ns ++ c ∷ [])
+rise_more least c [] above all r = (above, tt {0})
+rise_more least c (n ∷ ns) above all r = (r.0, rise_more n c ns (all n (here n (has_number n ns))) (λ d e. all d (there d n ns e)) r.1)
+
+-- ---- what was taken of one that is finished
+
+all_later : (c : ℕ) (items : List Item) (n n' : NetState) (t t' : Option (List NoteValue)) → taken_of n' c ≡ taken_of n c
+    → ((notes : List NoteValue) → t' ≡ Some notes → (earlier : List NoteValue) × (t ≡ Some earlier)) → SameDrops c t t' → TakesAll c items n t → TakesAll c items n' t'
+all_later c items n n' t t' taken told drops x = record {
+  where_told = λ octets eo notes en.
+      let q = told notes en in
+      kept_same (is_dropped c q.0) (is_dropped c notes) 0 items (λ j low high. drops q.0 notes q.1 en j) ∙ x.where_told octets (sym taken ∙ eo) q.0 q.1;
+}
+
+-- ---- one more
+
+pub finishing_starts : (s : Server) → ((c : ℕ) → c ≤ 0 → (entry_at s.hub c).phase ≢ Ending) → Finishing 0 s s
+finishing_starts s none = record {
+  finished = [];
+  rising = tt {0};
+  last = λ c e. absurd (no e);
+  advances = advances_same s;
+  fails = fails_same s.net;
+  appends = appends_same s;
+  away = λ c e. absurd (no e);
+  known = λ c e. absurd (no e);
+  whole = λ c e. absurd (no e);
+  below = λ c few ending. absurd (none c few ending);
+}
+
+pub finishing_next : (after c : ℕ) (old mid new : Server) → Finishing after old mid → FinishesOne c mid new → after < c → c ≤ mid.hub.named → c ≤ old.hub.named
+    → is_present mid.hub c ≡ true
+    → ((d : ℕ) → after < d → d < c → (entry_at mid.hub d).phase ≢ Ending) → (entry_at new.hub c).phase ≢ Ending → Finishing c old new
+finishing_next after c old mid new f one above named was_named there none gone =
+    let ns = f.finished in
+    let tells : mid.net.tells ≡ old.net.tells = f.advances.net.net.tells in
+    record {
+      finished = ns ++ c ∷ [];
+      rising = rise_more 0 c ns (omega arith) (λ d e. let l = f.last d e in omega arith) f.rising;
+      last = λ d e. one_of d c ns (λ z. let l = f.last d z in omega arith) (λ z. omega arith) e;
+      advances = subst (λ (z : List NoteValue). Advances z old new) (sym (finishes_more ns c)) (advances_then (finishes ns) (note.gone c Finished ∷ []) old mid new f.advances one.advances);
+      fails = subst (λ (z : List NoteValue). FailsAfter z old.net new.net) (sym (finishes_more ns c)) (fails_then (finishes ns) (note.gone c Finished ∷ []) old.net mid.net new.net tells f.fails one.fails);
+      appends = appends_before_nothing nothing old mid new f.appends one.appends;
+      away = λ d e. one_of d c ns (λ z. stays_away d mid new one.appends (known_later d old mid f.appends (f.known d z)) (f.away d z)) (λ z. subst (λ (w : ℕ). is_present new.hub w ≡ false) (sym z) one.away) e;
+      known = λ d e. one_of d c ns (f.known d) (λ z. subst (λ (w : ℕ). w ≤ old.hub.named) (sym z) was_named) e;
+      whole = λ d e. one_of d c ns
+          (λ z few items s. let k = one.appends.fronts d (known_later d old mid f.appends (f.known d z)) in
+          all_later d items mid.net new.net mid.told new.told (k.taken (f.away d z)) k.told (k.drops (f.away d z)) (f.whole d z few items s))
+          (λ z. subst (λ (w : ℕ). items_at old.hub w < 2 ^ 64 - 1 → (items : List Item) → StandsFor w old items → TakesAll w items new.net new.told) (sym z)
+          (λ few items s. one.whole (fewer c old mid f.appends was_named there few) items (stood c old mid f.appends was_named there items s))) e;
+      below = λ d few ending empty. at_or_below d after c few
+          (λ z. f.below d z (one.ending d ending).0 (sym (one.ending d ending).1 ∙ empty))
+          (λ low high. none d low high (one.ending d ending).0)
+          (λ z. gone (subst (λ (w : ℕ). (entry_at new.hub w).phase ≡ Ending) z ending));
+    }
+
+-- a connection that is ending and holds octets is passed over
+pub finishing_skip : (after c : ℕ) (old mid : Server) → Finishing after old mid → after < c → ((d : ℕ) → after < d → d < c → (entry_at mid.hub d).phase ≢ Ending) → ring_at mid.hub c ≢ [] → Finishing c old mid
+finishing_skip after c old mid f above none holds = record {
+  finished = f.finished;
+  rising = f.rising;
+  last = λ d e. let l = f.last d e in omega arith;
+  advances = f.advances;
+  fails = f.fails;
+  appends = f.appends;
+  away = f.away;
+  known = f.known;
+  whole = f.whole;
+  below = λ d few ending empty. at_or_below d after c few
+      (λ z. f.below d z ending empty)
+      (λ low high. none d low high ending)
+      (λ z. holds (subst (λ (w : ℕ). ring_at mid.hub w ≡ []) z empty));
+}
+
+at_any : {A : Type 0} (after c : ℕ) → (c ≤ after → A) → (after < c → A) → A
+at_any after c low high = by_cases (nat_lt after c) (λ e. high (grind (arith, nat_tests))) (λ e. low (grind (arith, nat_tests)))
+
+phase_in : (has : Bool) (at phase : Phase) → cond has (Some at) None ≡ Some phase → at ≡ phase
+phase_in true at phase e = let h : at ≡ phase = cc in h
+phase_in false at phase e = cc
+
+phase_of : (h : HubState) (c : ℕ) (phase : Phase) → phase_at h c ≡ Some phase → (entry_at h c).phase ≡ phase
+phase_of h c phase e = phase_in (has_entry h.entries c) (entry_at h c).phase phase e
+
+empty_or_not : {A : Type 0} (xs : List ℕ) → (xs ≡ [] → A) → (xs ≢ [] → A) → A
+empty_or_not [] empty some = empty refl
+empty_or_not (x ∷ xs) empty some = some (λ e. cc)
+
+away_is_not_ending : (e : Entry) → not (is_gone e.phase) ≡ false → e.phase ≢ Ending
+away_is_not_ending e away same = clash (not (is_gone e.phase)) away (ap (λ (z : Phase). not (is_gone z)) same)
+
+-- the next connection that is ending is finished, or passed over
+pub finishing_step : (after c : ℕ) (old mid new : Server) → Finishing after old mid → FinishesIfEmpty c mid new → after < c → c ≤ mid.hub.named → c ≤ old.hub.named
+    → (entry_at mid.hub c).phase ≡ Ending → ((d : ℕ) → after < d → d < c → (entry_at mid.hub d).phase ≢ Ending) → Finishing c old new
+finishing_step after c old mid new f one above named was_named ending none = empty_or_not (ring_at mid.hub c)
+    (λ e. let x = one.empty e in finishing_next after c old mid new f x above named was_named (ap (λ (z : Phase). not (is_gone z)) ending) none (away_is_not_ending (entry_at new.hub c) x.away))
+    (λ e. subst (λ (z : Server). Finishing c old z) (sym (one.holds e)) (finishing_skip after c old mid f above none e))
+
+ring_empty : (xs ys : List ℕ) → xs ++ ys ≡ [] → xs ≡ []
+ring_empty [] ys e = refl
+ring_empty (x ∷ xs) ys e = cc
+
+-- the turn is noted, and nobody above is ending
+pub finishing_ends : (after : ℕ) (old : Server) (h : HubState) (net : NetState) (t t' : Option (List NoteValue)) → Finishing after old (server h net t) → ((c : ℕ) → after < c → (entry_at h c).phase ≢ Ending) → IsNoted t note.turn t'
+    → EndsTurn old (server h net t')
+finishing_ends after old h net t t' f none told = record {
+  finished = f.finished;
+  rising = f.rising;
+  proceeds = proceeds_last (finishes f.finished ++ note.turn ∷ []) old (server h net t')
+      (advances_then (finishes f.finished) (note.turn ∷ []) old (server h net t) (server h net t') f.advances (advances_noted 0 note.turn h h net t t' told refl (notes_nobody h note.turn (λ d. refl))))
+      (fails_then (finishes f.finished) (note.turn ∷ []) old.net net net f.advances.net.net.tells f.fails (fails_noted note.turn net refl));
+  ending = λ c e empty. at_any after c
+      (λ low. f.below c low (phase_of h c Ending e) (ring_empty (ring_at h c) (cork_at h c ++ joined (pending_at h c)) empty))
+      (λ high. none c high (phase_of h c Ending e));
+  whole = λ c e few items s. let k = (appends_quiet h net t t' note.turn told (λ d. refl)).fronts c (known_later c old (server h net t) f.appends (f.known c e)) in
+      all_later c items net net t t' (k.taken (f.away c e)) k.told (k.drops (f.away c e)) (f.whole c e few items s);
+}
+
+pub appends_finished : (after : ℕ) (old : Server) (h : HubState) (net : NetState) (t t' : Option (List NoteValue)) → Finishing after old (server h net t) → IsNoted t note.turn t' → Appends nothing old (server h net t')
+appends_finished after old h net t t' f told = appends_before_nothing nothing old (server h net t) (server h net t') f.appends (appends_quiet h net t t' note.turn told (λ d. refl))
+
+-- there is no connection 0
+pub none_at_zero : (table : TableState) (net : NetState) (t : Option (List NoteValue)) → IsTable table → Finishing 0 (server_of table net t) (server_of table net t)
+none_at_zero table net t whole = finishing_starts (server_of table net t) (λ c few ending.
+    let has : has_entry table.entries c ≡ true = present_entry table.entries c (ap (λ (z : Phase). not (is_gone z)) ending) in
+    let one = whole.first c has in absurd (omega arith))
+
+pub is_known : (table : TableState) (c : ℕ) → IsTable table → (entry_of table.entries c).phase ≡ Ending → c ≤ table.named
+is_known table c whole ending = whole.named c (present_entry table.entries c (ap (λ (z : Phase). not (is_gone z)) ending))

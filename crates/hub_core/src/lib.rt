@@ -1,0 +1,14 @@
+//! A hub: all connections of a server, what is put for each, and the events of which the handler is to be told.
+#![tactic(auto)]
+
+mod events;
+mod hub;
+mod orders;
+mod puts;
+mod turns;
+
+pub use hub::{Arrival, Hub};
+pub use hub_table::Parting;
+
+#[cfg(test)]
+mod tests;

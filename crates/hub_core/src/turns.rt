@@ -1,0 +1,59 @@
+//! Ticks, and the end of a turn.
+
+ghost use Rattle.std.specs.Prelude.{◌≡◌, [], ◌∷◌};
+ghost use Rattle.ws_kinds.specs.declared.note.Phase.TheVariants.{Ending};
+ghost use Rattle.ws_kinds.specs.NoteValue as note;
+ghost use Rattle.hub_lines.specs.State.{server, entry_at};
+ghost use Rattle.hub_lines.specs.Calls.{Ties, Settled, nothing};
+ghost use Rattle.hub_notes.specs.Calls.{Appends};
+ghost use Rattle.hub_core.specs.Answers.{Makes};
+ghost use Rattle.hub_core.specs.Turns.{EndsTurn, FinishesIfEmpty};
+
+use crate::Hub;
+use link_trait::{Net, Outside};
+use ws_kinds::{Conn, Left, Note, Watch};
+
+impl Hub {
+    /// Notes that time went by: one tick.
+    pub fn tick<N: Net, W: Watch>(&mut self, out: &mut Outside<N, W>)
+        requires ties { Ties (server self.old (N.state out.old.net) (W.told out.old.watch)) }
+        ensures ties { Ties (server self.new (N.state out.new.net) (W.told out.new.watch)) }
+        ensures makes { Makes (note.tick ∷ []) (server self.old (N.state out.old.net) (W.told out.old.watch)) (server self.new (N.state out.new.net) (W.told out.new.watch)) }
+        ensures appends { Appends nothing (server self.old (N.state out.old.net) (W.told out.old.watch)) (server self.new (N.state out.new.net) (W.told out.new.watch)) }
+        ensures named { self.new.named ≡ self.old.named }
+    {
+        out.watch.note(&Note::Tick);
+    }
+
+    /// Ends a turn: each connection in phase Ending for which nothing is held is gone, as finished, in the order of their
+    /// numbers. Then the turn is noted. Nothing is pending after it, and the cork is empty.
+    pub fn end_turn<N: Net, W: Watch>(&mut self, out: &mut Outside<N, W>)
+        requires ties { Ties (server self.old (N.state out.old.net) (W.told out.old.watch)) }
+        ensures ties { Ties (server self.new (N.state out.new.net) (W.told out.new.watch)) }
+        ensures settled { Settled self.new }
+        ensures ends { EndsTurn (server self.old (N.state out.old.net) (W.told out.old.watch)) (server self.new (N.state out.new.net) (W.told out.new.watch)) }
+        ensures appends { Appends nothing (server self.old (N.state out.old.net) (W.told out.old.watch)) (server self.new (N.state out.new.net) (W.told out.new.watch)) }
+        ensures named { self.new.named ≡ self.old.named }
+    {
+        let _ = &self.table;
+        let mut after = Conn(0);
+        'walk: while let Some(conn) = self.table.next_ending(after) {
+            self.finish(out, conn);
+            after = conn;
+        }
+        out.watch.note(&Note::Turn);
+    }
+
+    /// A connection in phase Ending is gone, as finished, where nothing is held for it.
+    fn finish<N: Net, W: Watch>(&mut self, out: &mut Outside<N, W>, conn: Conn)
+        requires ending { (entry_at self.old conn.0).phase ≡ Ending }
+        requires ties { Ties (server self.old (N.state out.old.net) (W.told out.old.watch)) }
+        ensures ties { Ties (server self.new (N.state out.new.net) (W.told out.new.watch)) }
+        ensures finishes { FinishesIfEmpty conn.0 (server self.old (N.state out.old.net) (W.told out.old.watch)) (server self.new (N.state out.new.net) (W.told out.new.watch)) }
+        ensures named { self.new.named ≡ self.old.named }
+    {
+        if self.table.held(conn) == 0 {
+            self.leave(out, conn, Left::Finished);
+        }
+    }
+}

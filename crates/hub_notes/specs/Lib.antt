@@ -1,0 +1,5 @@
+pub mod Noted
+pub mod Progress
+pub mod NetAfter
+pub mod Fronts
+pub mod Calls

@@ -1,0 +1,4 @@
+pub mod Agrees
+pub mod Tests
+pub mod Numbers
+pub mod Orders

@@ -1,0 +1,4 @@
+pub mod ConnectionLemmas
+pub mod PlaceLemmas
+pub mod ChangeLemmas
+pub mod HeldLemmas

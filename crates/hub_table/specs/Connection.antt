@@ -1,0 +1,108 @@
+-- The connections of a hub with their Closed events, as the table keeps them.
+use Rattle.std.specs.Prelude.{◌≡◌, ◌≤◌, ◌<◌, ⊤, ℕ, List, [], ◌∷◌, Option, Some, None, Bool, true, false, is_some, length, nat_eq, slice_index_or, if◌then◌else◌}
+use Rattle.ws_kinds.specs.declared.note.Phase.{Phase}
+use Rattle.ws_kinds.specs.declared.note.Phase.TheVariants.{Head, Ending}
+use Rattle.ws_kinds.specs.ConfigValue.{ConfigValue}
+use Rattle.hub_lines.specs.State.{Entry, PartingValue, no_entry, is_gone}
+use Rattle.hub_table.specs.declared.connection.Connection.{Connection}
+use Rattle.hub_table.specs.declared.parting.Parting.{Parting}
+use Rattle.hub_table.specs.Parting.{parting_value}
+use Rattle.hub_table.specs.Table.{TableState, AreRising}
+
+-- where there is no connection
+abbrev pub no_connection : Connection
+no_connection = record { socket = no_entry; closed = None }
+
+-- the connection at a place, counted from 0
+abbrev pub connection_at : List Connection → ℕ → Connection
+connection_at all place = slice_index_or all place no_connection
+
+-- the connection of this number
+abbrev pub connection_of : List Connection → ℕ → Connection
+connection_of [] conn = no_connection
+connection_of (first ∷ rest) conn = if nat_eq first.socket.conn conn then first else connection_of rest conn
+
+-- what contracts see of connections, in their order
+abbrev pub entries_of : List Connection → List Entry
+entries_of [] = []
+entries_of (first ∷ rest) = first.socket ∷ entries_of rest
+
+-- a Closed event, if one is due, in front of others
+abbrev pub put_before : Option Parting → List PartingValue → List PartingValue
+put_before None rest = rest
+put_before (Some parting) rest = parting_value parting ∷ rest
+
+-- the Closed events that are due, in the order of their connections
+abbrev pub partings_of : List Connection → List PartingValue
+partings_of [] = []
+partings_of (first ∷ rest) = put_before first.closed (partings_of rest)
+
+-- the code and the reason of a Closed event
+abbrev pub cause : Parting → ℕ × List ℕ
+cause parting = (parting.code, parting.reason.items)
+
+-- the connection's number is smaller than this one, or is not
+abbrev pub IsBelow : ℕ → Connection → Type 0
+IsBelow conn connection = connection.socket.conn < conn
+
+abbrev pub IsNotBelow : ℕ → Connection → Type 0
+IsNotBelow conn connection = conn ≤ connection.socket.conn
+
+-- nothing more is read of the connection
+abbrev pub is_ending : Phase → Bool
+is_ending Ending = true
+is_ending _ = false
+
+-- the first place with a Closed event that is due, if there is one
+abbrev pub IsFirstDue : List Connection → Option ℕ → Type 0
+IsFirstDue all None = (place : ℕ) → (connection_at all place).closed ≡ None
+IsFirstDue all (Some first) = (first < length all) × (is_some (connection_at all first).closed ≡ true)
+    × ((place : ℕ) → place < first → (connection_at all place).closed ≡ None)
+
+-- what contracts see of a table
+abbrev pub table_state : ConfigValue → ℕ → List Connection → TableState
+table_state config named all = record { config = config; named = named; entries = entries_of all; partings = partings_of all }
+
+-- the connection with its socket changed
+abbrev pub with_socket : Connection → Entry → Connection
+with_socket connection socket = record { socket = socket; closed = connection.closed }
+
+-- it went on to a phase
+abbrev pub entered : Connection → Phase → Connection
+entered connection phase = with_socket connection (record connection.socket { phase = phase })
+
+-- it went on to a phase, and this Closed event is due
+abbrev pub parted : Connection → Phase → Parting → Connection
+parted connection phase parting = record { socket = record connection.socket { phase = phase }; closed = Some parting }
+
+-- its Closed event is due no more
+abbrev pub told : Connection → Connection
+told connection = record { socket = connection.socket; closed = None }
+
+-- a Closed event is of this connection
+abbrev pub IsOwn : ℕ → Option Parting → Type 0
+IsOwn conn None = ⊤
+IsOwn conn (Some parting) = parting.conn.0 ≡ conn
+
+-- what holds of each connection by itself
+pub record IsConnection (numbers : ConfigValue) (greatest : ℕ) (connection : Connection) : Type 0 where
+  -- its number is among those that were accepted, which begin at 1
+  pub first : 1 ≤ connection.socket.conn
+  pub among : connection.socket.conn ≤ greatest
+  pub config : connection.socket.config ≡ numbers
+  -- nothing was put in phase Head
+  pub head : connection.socket.phase ≡ Head → connection.socket.numbered ≡ 0
+  pub own : IsOwn connection.socket.conn connection.closed
+  -- it is gone only as long as its Closed event is due
+  pub due : is_gone connection.socket.phase ≡ true → is_some connection.closed ≡ true
+
+-- this holds of each of them
+abbrev pub AreConnections : ConfigValue → ℕ → List Connection → Type 0
+AreConnections config named [] = ⊤
+AreConnections config named (first ∷ rest) = IsConnection config named first × AreConnections config named rest
+
+-- what holds of all connections
+pub record AreKept (config : ConfigValue) (greatest : ℕ) (all : List Connection) : Type 0 where
+  pub rising : AreRising (entries_of all)
+  pub each : AreConnections config greatest all
+  pub few : length all ≤ config.max_conns

@@ -1,0 +1,4 @@
+pub mod Sounds
+pub mod Known
+pub mod Tests
+pub mod Arrivals
