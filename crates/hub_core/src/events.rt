@@ -12,6 +12,7 @@ ghost use Rattle.hub_lines.specs.State.{server, phase_at};
 ghost use Rattle.hub_lines.specs.Calls.{Ties, SameElsewhere, SameLinesElsewhere, nothing, only, served};
 ghost use Rattle.hub_notes.specs.Calls.{Advances, Proceeds, Appends};
 ghost use Rattle.hub_notes.specs.NetAfter.{FailsAfter};
+ghost use Rattle.hub_table.specs.Table.{IsTable, table_of};
 ghost use Rattle.hub_core.specs.Answers.{Makes, has_frames, is_failure, IsClose};
 
 use crate::Hub;
@@ -30,7 +31,9 @@ impl Hub {
         ensures appends { Appends nothing (server self.old (N.state out.old.net) (W.told out.old.watch)) (server self.new (N.state out.new.net) (W.told out.new.watch)) }
         ensures elsewhere { SameElsewhere conn.0 self.old self.new }
         ensures named { self.new.named ≡ self.old.named }
+        ensures table { IsTable (table_of self.new) }
     {
+        let _ = &self.table;
         out.watch.note(&Note::Given { conn, count });
     }
 
@@ -52,6 +55,7 @@ impl Hub {
         ensures appends { Appends (only conn.0 (replied reply.now)) (server self.old (N.state out.old.net) (W.told out.old.watch)) (server self.new (N.state out.new.net) (W.told out.new.watch)) }
         ensures elsewhere { SameLinesElsewhere conn.0 (server self.old (N.state out.old.net) (W.told out.old.watch)) (server self.new (N.state out.new.net) (W.told out.new.watch)) }
         ensures named { self.new.named ≡ self.old.named }
+        ensures table { IsTable (table_of self.new) }
     {
         self.table.enter(conn, Phase::Open);
         out.watch.note(&Note::Opened { conn, route, param });
@@ -75,6 +79,7 @@ impl Hub {
         ensures appends { Appends (only conn.0 (replied reply.now)) (server self.old (N.state out.old.net) (W.told out.old.watch)) (server self.new (N.state out.new.net) (W.told out.new.watch)) }
         ensures elsewhere { SameLinesElsewhere conn.0 (server self.old (N.state out.old.net) (W.told out.old.watch)) (server self.new (N.state out.new.net) (W.told out.new.watch)) }
         ensures named { self.new.named ≡ self.old.named }
+        ensures table { IsTable (table_of self.new) }
     {
         self.table.enter(conn, Phase::Ending);
         out.watch.note(&Note::Head { conn, status });
@@ -92,6 +97,7 @@ impl Hub {
         ensures appends { Appends (only conn.0 (whole Pong body.now)) (server self.old (N.state out.old.net) (W.told out.old.watch)) (server self.new (N.state out.new.net) (W.told out.new.watch)) }
         ensures elsewhere { SameLinesElsewhere conn.0 (server self.old (N.state out.old.net) (W.told out.old.watch)) (server self.new (N.state out.new.net) (W.told out.new.watch)) }
         ensures named { self.new.named ≡ self.old.named }
+        ensures table { IsTable (table_of self.new) }
     {
         out.watch.note(&Note::PingGot { conn, body });
         self.put(out, conn, Item::Frame(10, body));
@@ -106,7 +112,9 @@ impl Hub {
         ensures appends { Appends nothing (server self.old (N.state out.old.net) (W.told out.old.watch)) (server self.new (N.state out.new.net) (W.told out.new.watch)) }
         ensures elsewhere { SameElsewhere conn.0 self.old self.new }
         ensures named { self.new.named ≡ self.old.named }
+        ensures table { IsTable (table_of self.new) }
     {
+        let _ = &self.table;
         out.watch.note(&Note::PongGot { conn, body });
     }
 
@@ -128,6 +136,7 @@ impl Hub {
         ensures appends { Appends (served (is_open (phase_at self.old conn.0)) (only conn.0 (close_item code))) (server self.old (N.state out.old.net) (W.told out.old.watch)) (server self.new (N.state out.new.net) (W.told out.new.watch)) }
         ensures elsewhere { SameLinesElsewhere conn.0 (server self.old (N.state out.old.net) (W.told out.old.watch)) (server self.new (N.state out.new.net) (W.told out.new.watch)) }
         ensures named { self.new.named ≡ self.old.named }
+        ensures table { IsTable (table_of self.new) }
     {
         let was_open = self.end(conn, code, reason);
         out.watch.note(&Note::PeerClose { conn, code, reason });
@@ -148,6 +157,7 @@ impl Hub {
         ensures appends { Appends (served (is_open (phase_at self.old conn.0)) (only conn.0 (close_item code))) (server self.old (N.state out.old.net) (W.told out.old.watch)) (server self.new (N.state out.new.net) (W.told out.new.watch)) }
         ensures elsewhere { SameLinesElsewhere conn.0 (server self.old (N.state out.old.net) (W.told out.old.watch)) (server self.new (N.state out.new.net) (W.told out.new.watch)) }
         ensures named { self.new.named ≡ self.old.named }
+        ensures table { IsTable (table_of self.new) }
     {
         let was_open = self.end(conn, code, &[]);
         out.watch.note(&Note::Failed { conn, code });
@@ -166,6 +176,7 @@ impl Hub {
         ensures appends { Appends nothing (server self.old (N.state out.old.net) (W.told out.old.watch)) (server self.new (N.state out.new.net) (W.told out.new.watch)) }
         ensures elsewhere { SameElsewhere conn.0 self.old self.new }
         ensures named { self.new.named ≡ self.old.named }
+        ensures table { IsTable (table_of self.new) }
     {
         self.leave(out, conn, Left::PeerEnd);
     }
@@ -181,6 +192,7 @@ impl Hub {
         ensures appends { Appends nothing (server self.old (N.state out.old.net) (W.told out.old.watch)) (server self.new (N.state out.new.net) (W.told out.new.watch)) }
         ensures elsewhere { SameElsewhere conn.0 self.old self.new }
         ensures named { self.new.named ≡ self.old.named }
+        ensures table { IsTable (table_of self.new) }
     {
         self.leave(out, conn, Left::LinkFailed);
     }

@@ -74,6 +74,7 @@ impl Hub {
         ensures ties { Ties (server self.new (N.state out.new.net) (W.told out.new.watch)) }
         ensures answer { Arrives result conn.0 (server self.old (N.state out.old.net) (W.told out.old.watch)) (server self.new (N.state out.new.net) (W.told out.new.watch)) }
         ensures appends { Appends nothing (server self.old (N.state out.old.net) (W.told out.old.watch)) (server self.new (N.state out.new.net) (W.told out.new.watch)) }
+        ensures table { IsTable (table_of self.new) }
     {
         if self.table.is_full() {
             out.watch.note(&Note::Busy(conn));
@@ -95,6 +96,7 @@ impl Hub {
         ensures ties { (net : NetState) (told : Option (List NoteValue)) → Ties (server self.old net told) → Ties (server self.new net told) }
         ensures none { IfNone result (self.new ≡ self.old) }
         ensures some { IfSome result (λ parting. (self.new.config ≡ self.old.config) × (self.new.named ≡ self.old.named)) }
+        ensures table { IsTable (table_of self.new) }
     {
         self.table.next_closed()
     }

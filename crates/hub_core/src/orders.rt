@@ -10,6 +10,7 @@ ghost use Rattle.run_meaning.specs.Orders.{why_send};
 ghost use Rattle.hub_lines.specs.State.{server, phase_at};
 ghost use Rattle.hub_lines.specs.Calls.{Ties, SameLinesElsewhere, only, served};
 ghost use Rattle.hub_notes.specs.Calls.{Proceeds, Appends};
+ghost use Rattle.hub_table.specs.Table.{IsTable, table_of};
 ghost use Rattle.hub_core.specs.Answers.{TellsPut, reason_of};
 ghost use Rattle.hub_core.specs.Orders.{Serves, ServesAll};
 
@@ -64,7 +65,9 @@ impl Hub {
         ensures elsewhere { SameLinesElsewhere to.0 (server self.old (N.state out.old.net) (W.told out.old.watch)) (server self.new (N.state out.new.net) (W.told out.new.watch)) }
         ensures named { self.new.named ≡ self.old.named }
         ensures config { self.new.config ≡ self.old.config }
+        ensures table { IsTable (table_of self.new) }
     {
+        let _ = &self.table;
         match self.refusal(to, kind, body) {
             Some(why) => Err(why),
             None => Ok(self.put(out, to, Item::Frame(opcode_of(kind), body))),
@@ -83,7 +86,9 @@ impl Hub {
         ensures ties { Ties (server self.new (N.state out.new.net) (W.told out.new.watch)) }
         ensures serves { ServesAll conn.0 0 (order_values orders.now.items) (server self.old (N.state out.old.net) (W.told out.old.watch)) (server self.new (N.state out.new.net) (W.told out.new.watch)) }
         ensures named { self.new.named ≡ self.old.named }
+        ensures table { IsTable (table_of self.new) }
     {
+        let _ = &self.table;
         'walk: for number in 0..orders.len() {
             self.serve(out, conn, number as u8, &orders[number]);
         }
@@ -100,6 +105,7 @@ impl Hub {
         ensures ties { Ties (server self.new (N.state out.new.net) (W.told out.new.watch)) }
         ensures serves { Serves conn.0 number (order_value order.now) (server self.old (N.state out.old.net) (W.told out.old.watch)) (server self.new (N.state out.new.net) (W.told out.new.watch)) }
         ensures named { self.new.named ≡ self.old.named }
+        ensures table { IsTable (table_of self.new) }
     {
         match *order {
             Order::Send { to, kind, body } => self.serve_send(out, conn, number, to, kind, body),
@@ -119,6 +125,7 @@ impl Hub {
         ensures ties { Ties (server self.new (N.state out.new.net) (W.told out.new.watch)) }
         ensures serves { Serves conn.0 number (send to.0 kind body.now) (server self.old (N.state out.old.net) (W.told out.old.watch)) (server self.new (N.state out.new.net) (W.told out.new.watch)) }
         ensures named { self.new.named ≡ self.old.named }
+        ensures table { IsTable (table_of self.new) }
     {
         if let Err(why) = self.send(out, to, kind, body) {
             let order = number;

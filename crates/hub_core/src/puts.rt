@@ -17,7 +17,7 @@ ghost use Rattle.hub_notes.specs.NetAfter.{FailsAfter};
 ghost use Rattle.hub_notes.specs.Calls.{Advances, Proceeds, Appends};
 ghost use Rattle.hub_notes.specs.Progress.{due_at, may_leave_by};
 ghost use Rattle.socket_core.specs.Items.{IsSent, IsPuttable};
-ghost use Rattle.hub_table.specs.Table.{ChangesOne, due_when_gone, table_of};
+ghost use Rattle.hub_table.specs.Table.{ChangesOne, due_when_gone, table_of, IsTable};
 ghost use Rattle.hub_core.specs.State.{hub_of};
 ghost use Rattle.hub_core.specs.Answers.{TellsPut, has_frames};
 
@@ -45,6 +45,7 @@ impl Hub {
         ensures kept { TellsPut result conn.0 self.new }
         ensures config { self.new.config ≡ self.old.config }
         ensures named { self.new.named ≡ self.old.named }
+        ensures table { IsTable (table_of self.new) }
     {
         let kept = self.table.put_frame(out, conn, item);
         if kept == Kept::Failed {
@@ -69,6 +70,7 @@ impl Hub {
         ensures appends { Appends (only conn.0 (close_item code)) (server self.old (N.state out.old.net) (W.told out.old.watch)) (server self.new (N.state out.new.net) (W.told out.new.watch)) }
         ensures elsewhere { SameLinesElsewhere conn.0 (server self.old (N.state out.old.net) (W.told out.old.watch)) (server self.new (N.state out.new.net) (W.told out.new.watch)) }
         ensures named { self.new.named ≡ self.old.named }
+        ensures table { IsTable (table_of self.new) }
     {
         if code == 1005 {
             self.put(out, conn, Item::Frame(8, &[]));
@@ -88,6 +90,7 @@ impl Hub {
         ensures change { ChangesOne conn.0 (table_of self.old) (table_of self.new) }
         ensures was_plain { hub_of (table_of self.old) ≡ self.old }
         ensures plain { hub_of (table_of self.new) ≡ self.new }
+        ensures table { IsTable (table_of self.new) }
     {
         if self.table.phase(conn) == Some(Phase::Open) {
             self.table.close(conn, code, reason);
@@ -121,6 +124,7 @@ impl Hub {
         ensures whole { ring_at self.old conn.0 ≡ [] → items_at self.old conn.0 < 2 ^ 64 - 1 → (items : List Sent) → StandsFor conn.0 (server self.old (N.state out.old.net) (W.told out.old.watch)) items → TakesAll conn.0 items (N.state out.new.net) (W.told out.new.watch) }
         ensures plain { hub_of (table_of self.new) ≡ self.new }
         ensures named { self.new.named ≡ self.old.named }
+        ensures table { IsTable (table_of self.new) }
     {
         out.net.shut(conn);
         out.watch.note(&Note::Gone { conn, left });

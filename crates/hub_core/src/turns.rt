@@ -6,6 +6,7 @@ ghost use Rattle.ws_kinds.specs.NoteValue as note;
 ghost use Rattle.hub_lines.specs.State.{server, entry_at};
 ghost use Rattle.hub_lines.specs.Calls.{Ties, Settled, nothing};
 ghost use Rattle.hub_notes.specs.Calls.{Appends};
+ghost use Rattle.hub_table.specs.Table.{IsTable, table_of};
 ghost use Rattle.hub_core.specs.Answers.{Makes};
 ghost use Rattle.hub_core.specs.Turns.{EndsTurn, FinishesIfEmpty};
 
@@ -21,7 +22,9 @@ impl Hub {
         ensures makes { Makes (note.tick ∷ []) (server self.old (N.state out.old.net) (W.told out.old.watch)) (server self.new (N.state out.new.net) (W.told out.new.watch)) }
         ensures appends { Appends nothing (server self.old (N.state out.old.net) (W.told out.old.watch)) (server self.new (N.state out.new.net) (W.told out.new.watch)) }
         ensures named { self.new.named ≡ self.old.named }
+        ensures table { IsTable (table_of self.new) }
     {
+        let _ = &self.table;
         out.watch.note(&Note::Tick);
     }
 
@@ -34,6 +37,7 @@ impl Hub {
         ensures ends { EndsTurn (server self.old (N.state out.old.net) (W.told out.old.watch)) (server self.new (N.state out.new.net) (W.told out.new.watch)) }
         ensures appends { Appends nothing (server self.old (N.state out.old.net) (W.told out.old.watch)) (server self.new (N.state out.new.net) (W.told out.new.watch)) }
         ensures named { self.new.named ≡ self.old.named }
+        ensures table { IsTable (table_of self.new) }
     {
         let _ = &self.table;
         let mut after = Conn(0);
@@ -51,6 +55,7 @@ impl Hub {
         ensures ties { Ties (server self.new (N.state out.new.net) (W.told out.new.watch)) }
         ensures finishes { FinishesIfEmpty conn.0 (server self.old (N.state out.old.net) (W.told out.old.watch)) (server self.new (N.state out.new.net) (W.told out.new.watch)) }
         ensures named { self.new.named ≡ self.old.named }
+        ensures table { IsTable (table_of self.new) }
     {
         if self.table.held(conn) == 0 {
             self.leave(out, conn, Left::Finished);

@@ -1,0 +1,13 @@
+pub mod OthersLemmas
+pub mod GivingLemmas
+pub mod ReadingCalls
+pub mod ReadingLemmas
+pub mod Resting
+pub mod PassingLemmas
+pub mod UnknownLemmas
+pub mod ArrivingLemmas
+pub mod TurningLemmas
+pub mod RightLemmas
+pub mod EndLemmas
+pub mod ReadLemmas
+pub mod TurnLemmas

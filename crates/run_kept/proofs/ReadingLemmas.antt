@@ -1,0 +1,485 @@
+-- What a server keeps where a connection is read and what came of it is told.
+use Rattle.std.proofs.Common.{◌≡◌, ◌≢◌, inr, ℕ, List, [], ◌∷◌, ◌++◌, Option, Some, None, Bool, true, false, cond, take, map, refl, sym, ap, ◌∙◌, subst, append-nil}
+use Rattle.std.specs.List.{list_all}
+use Rattle.ws_kinds.specs.declared.note.Left.{Left}
+use Rattle.ws_kinds.specs.declared.note.Left.TheVariants.{PeerEnd, LinkFailed}
+use Rattle.ws_kinds.specs.declared.note.Phase.{Phase}
+use Rattle.ws_kinds.specs.declared.note.Phase.TheVariants.{Head, Open, Leaving, Ending, Gone}
+use Rattle.ws_kinds.specs.ConfigValue.{ConfigValue}
+use Rattle.ws_kinds.specs.NoteValue as note
+use Rattle.ws_kinds.specs.NoteValue.{NoteValue}
+use Rattle.wire_meaning.specs.declared.frame.Opcode.TheVariants.{Pong}
+use Rattle.wire_meaning.specs.Event as wire
+use Rattle.wire_meaning.specs.Event.{Event}
+use Rattle.wire_meaning.specs.Answer.{Item, reply, whole, close_item}
+use Rattle.link_trait.specs.NetState.{NetState}
+use Rattle.link_trait.specs.Net.{Reads}
+use Rattle.link_trait.specs.declared.net.NetRead.{NetRead}
+use Rattle.link_trait.specs.declared.net.NetRead.TheVariants as read
+use Rattle.route_table.specs.Table.{RouteTable}
+use Rattle.upgrade_head.specs.Judged.{Judged, refuse, more as undecided}
+use Rattle.upgrade_head.specs.Texts.{refusal_text}
+use Rattle.frame_reader.specs.declared.reader.Reader.{Reader}
+use Rattle.frame_reader.specs.declared.step.Step.{Step}
+use Rattle.frame_reader.specs.declared.step.Step.TheVariants as step
+use Rattle.frame_reader.specs.Step.{HasStepped, IsMore, is_last, events_of}
+use Rattle.run_meaning.specs.Counts.{gather}
+use Rattle.run_meaning.specs.Server as run
+use Rattle.run_meaning.specs.Lines.{Line, World, moved, is_open, noted, noted_all, phase, world}
+use Rattle.run_meaning.specs.Life.{Heard, refused, heard, IsLife}
+use Rattle.run_meaning.specs.Life as life
+use Rattle.run_meaning.specs.Network.{Follows, marks_by}
+use Rattle.run_meaning.specs.Settled.{is_reading}
+use Rattle.hub_lines.specs.Told.{taken_of}
+use Rattle.hub_lines.specs.State.{Server, server, phase_at}
+use Rattle.hub_lines.specs.Calls.{nothing, only, served}
+use Rattle.hub_notes.specs.Progress.{unless_gone}
+use Rattle.hub_notes.specs.Calls.{Advances, Proceeds, Appends}
+use Rattle.hub_notes.specs.NetAfter.{FailsAfter}
+use Rattle.hub_notes.proofs.BoolLemmas.{clash}
+use Rattle.hub_table.specs.Table.{IsTable, table_of}
+use Rattle.hub_core.specs.Answers.{Makes, has_frames}
+use Rattle.hub_runs.specs.Agrees.{Agrees}
+use Rattle.hub_runs.specs.Tests.{is_closed}
+use Rattle.hub_runs.proofs.ProgressLemmas.{wordless_line}
+use Rattle.hub_runs.proofs.AgreeLemmas.{agrees_net}
+use Rattle.hub_runs.proofs.CarryLemmas.{agrees_phase}
+use Rattle.hub_runs.proofs.HubLemmas.{agrees_quiet, agrees_note, items_head, items_ping, items_close, items_failed, agrees_open, agrees_told_phase}
+use Rattle.run_heard.specs.Hears.{HearsFrames, HearsFront}
+use Rattle.run_heard.specs.Unheard.{note_of_event}
+use Rattle.run_heard.proofs.Hearing.{head_fed, frames_fed, then_refused, frames_stepped, frames_more, frames_last}
+use Rattle.run_heard.proofs.Lives.{heard_unheard, heard_then_head, heard_then_event}
+use Rattle.run_follows.specs.Steps.{FollowsBut}
+use Rattle.run_follows.specs.Unread.{is_unread}
+use Rattle.run_follows.proofs.Adding.{same_or_not, but_none, none_but}
+use Rattle.run_follows.proofs.Proceeding.{proceeds_follows}
+use Rattle.run_follows.proofs.Reading.{octets_read, end_read, fault_read, later_read}
+use Rattle.run_kept.specs.Kept.{IntakeView, HearsAt, RestsAt, IsRouted, Kept}
+use Rattle.run_kept.specs.Readers.{IsFed, SameButReader}
+use Rattle.run_kept.proofs.OthersLemmas.{hears_on, rests_judged}
+use Rattle.run_kept.proofs.ReadingCalls.{IsOwn, own_note, entries_stay, moves_own, hears_sent, rests_sent, kept_call}
+
+-- ---- phases
+
+reading_shown : (p : Option Phase) → is_reading (unless_gone p) ≡ is_reading p
+reading_shown None = refl
+reading_shown (Some Head) = refl
+reading_shown (Some Open) = refl
+reading_shown (Some Leaving) = refl
+reading_shown (Some Ending) = refl
+reading_shown (Some Gone) = refl
+
+frames_shown : (p : Option Phase) → has_frames (unless_gone p) ≡ has_frames p
+frames_shown None = refl
+frames_shown (Some Head) = refl
+frames_shown (Some Open) = refl
+frames_shown (Some Leaving) = refl
+frames_shown (Some Ending) = refl
+frames_shown (Some Gone) = refl
+
+reading_by : {S : Type 0} (w : World S) (ns : List NoteValue) (s : Server) → Agrees w ns s → (c : ℕ) → is_reading (phase_at s.hub c) ≡ true → is_reading (w.line c).phase ≡ true
+reading_by w ns s x c e =
+    sym (reading_shown (w.line c).phase) ∙ sym (ap (λ (z : Option Phase). is_reading z) (agrees_phase w ns s x c)) ∙ reading_shown (phase_at s.hub c) ∙ e
+
+frames_by : {S : Type 0} (w : World S) (ns : List NoteValue) (s : Server) → Agrees w ns s → (c : ℕ) → has_frames (phase_at s.hub c) ≡ true → has_frames (w.line c).phase ≡ true
+frames_by w ns s x c e =
+    sym (frames_shown (w.line c).phase) ∙ sym (ap (λ (z : Option Phase). has_frames z) (agrees_phase w ns s x c)) ∙ frames_shown (phase_at s.hub c) ∙ e
+
+reading_is : (p : Option Phase) → is_reading p ≡ true → p ≢ None
+reading_is p e none = clash (is_reading p) (ap (λ (z : Option Phase). is_reading z) none) e
+
+gone_by : (p : Option Phase) (c : ℕ) (left : Left) → is_reading p ≡ true → moved p (note.gone c left) ≡ Some Gone
+gone_by None c left e = clash false refl e
+gone_by (Some Head) c left e = refl
+gone_by (Some Open) c left e = refl
+gone_by (Some Leaving) c left e = refl
+gone_by (Some Ending) c left e = clash false refl e
+gone_by (Some Gone) c left e = clash false refl e
+
+close_by : (p : Option Phase) (c code : ℕ) (reason : List ℕ) → has_frames p ≡ true → moved p (note.peer_close c code reason) ≡ Some Ending
+close_by None c code reason e = clash false refl e
+close_by (Some Head) c code reason e = clash false refl e
+close_by (Some Open) c code reason e = refl
+close_by (Some Leaving) c code reason e = refl
+close_by (Some Ending) c code reason e = clash false refl e
+close_by (Some Gone) c code reason e = clash false refl e
+
+fail_by : (p : Option Phase) (c code : ℕ) → has_frames p ≡ true → moved p (note.failed c code) ≡ Some Ending
+fail_by None c code e = clash false refl e
+fail_by (Some Head) c code e = clash false refl e
+fail_by (Some Open) c code e = refl
+fail_by (Some Leaving) c code e = refl
+fail_by (Some Ending) c code e = clash false refl e
+fail_by (Some Gone) c code e = clash false refl e
+
+-- ---- steps of a reader
+
+last_of : (s : Step) (c : ℕ) (reason : List ℕ) → events_of s ≡ wire.closed c reason ∷ [] → is_last s ≡ true
+last_of step.More c reason e = cc
+last_of (step.Message kind octets) c reason e = cc
+last_of (step.Ping payload) c reason e = cc
+last_of (step.Pong payload) c reason e = cc
+last_of (step.Close code other) c reason e = refl
+last_of (step.Failed code) c reason e = refl
+
+failed_of : (s : Step) (c : ℕ) → events_of s ≡ wire.failed c ∷ [] → is_last s ≡ true
+failed_of step.More c e = cc
+failed_of (step.Message kind octets) c e = cc
+failed_of (step.Ping payload) c e = cc
+failed_of (step.Pong payload) c e = cc
+failed_of (step.Close code other) c e = refl
+failed_of (step.Failed code) c e = refl
+
+module _ (table : RouteTable) (max : ℕ) where
+  frames_at : (p : Option Phase) (hs : List Heard) (os : List ℕ) (rd : Reader) → has_frames p ≡ true → HearsAt table max p hs os rd → HearsFrames table max hs os rd
+  frames_at None hs os rd e h = clash false refl e
+  frames_at (Some Head) hs os rd e h = clash false refl e
+  frames_at (Some Open) hs os rd e h = h
+  frames_at (Some Leaving) hs os rd e h = h
+  frames_at (Some Ending) hs os rd e h = clash false refl e
+  frames_at (Some Gone) hs os rd e h = clash false refl e
+
+  at_frames : (p : Option Phase) (hs : List Heard) (os : List ℕ) (rd : Reader) → has_frames p ≡ true → HearsFrames table max hs os rd → HearsAt table max p hs os rd
+  at_frames None hs os rd e h = clash false refl e
+  at_frames (Some Head) hs os rd e h = clash false refl e
+  at_frames (Some Open) hs os rd e h = h
+  at_frames (Some Leaving) hs os rd e h = h
+  at_frames (Some Ending) hs os rd e h = clash false refl e
+  at_frames (Some Gone) hs os rd e h = clash false refl e
+
+  -- octets are fed
+  fed_at : (p : Option Phase) (c k : ℕ) (hs : List Heard) (os came : List ℕ) (old new : Reader) → is_reading p ≡ true → IsFed came old new → HearsAt table max p hs os old
+      → HearsAt table max (moved p (note.given c k)) hs (os ++ came) new
+  fed_at None c k hs os came old new e fed h = clash false refl e
+  fed_at (Some Head) c k hs os came old new e fed h = head_fed max hs os came old new h fed.raw fed.unread fed.max
+  fed_at (Some Open) c k hs os came old new e fed h = frames_fed table max hs os came old new h fed.ahead
+  fed_at (Some Leaving) c k hs os came old new e fed h = frames_fed table max hs os came old new h fed.ahead
+  fed_at (Some Ending) c k hs os came old new e fed h = clash false refl e
+  fed_at (Some Gone) c k hs os came old new e fed h = clash false refl e
+
+rests_at : (table : RouteTable) (p : Option Phase) (os : List ℕ) (rd : Reader) (s : Step) (old : Reader) → has_frames p ≡ true → HasStepped old s rd → IsMore s → RestsAt table p os rd
+rests_at table None os rd s old e t is = clash false refl e
+rests_at table (Some Head) os rd s old e t is = clash false refl e
+rests_at table (Some Open) os rd s old e t is = t.all_told is
+rests_at table (Some Leaving) os rd s old e t is = t.all_told is
+rests_at table (Some Ending) os rd s old e t is = tt {0}
+rests_at table (Some Gone) os rd s old e t is = tt {0}
+
+abbrev phase_of : Line → Option Phase
+phase_of l = l.phase
+
+-- all stays but what the reader of one connection has
+same_intakes : (c : ℕ) (intakes : ℕ → IntakeView) → SameButReader c intakes intakes
+same_intakes c intakes = record { route = refl; param = refl; others = λ d ne. refl }
+
+-- what the watch told is what is kept
+told_both : (xs after : List NoteValue) (told : Option (List NoteValue)) → told ≡ Some xs → told ≡ Some after → after ≡ xs
+told_both xs after told e h = let z : Some after ≡ Some xs = sym h ∙ e in cc
+
+some_other : (c d : ℕ) → d ≢ c → Some c ≢ Some d
+some_other c d ne e = ne (let z : c ≡ d = cc in sym z)
+
+none_other : (c : ℕ) → None ≢ Some c
+none_other c e = cc
+
+-- ---- reads
+
+taken_read : (c : ℕ) (space : List ℕ) (result : NetRead) (a b : NetState) → a.tells ≡ true → Reads c space result a b → (d : ℕ) → taken_of b d ≡ taken_of a d
+taken_read c space result a b tells rd d =
+    ap (λ (z : Bool). cond z (Some (b.taken d)) None) rd.net.tells
+    ∙ ap (λ (z : List ℕ). cond a.tells (Some z) None) (same_or_not c d
+    (λ e. subst (λ (z : ℕ). b.taken z ≡ a.taken z) (sym e) (rd.told tells).taken)
+    (λ ne. (rd.told tells).elsewhere.taken d ne))
+
+agrees_read : {S : Type 0} (w : World S) (ns : List NoteValue) (s : Server) (c : ℕ) (space : List ℕ) (result : NetRead) (net : NetState) → Agrees w ns s → Reads c space result s.net net → Agrees w ns (server s.hub net s.told)
+agrees_read w ns s c space result net x rd = agrees_net w ns s (server s.hub net s.told) x refl refl (rd.net.tells ∙ x.tells) (taken_read c space result s.net net x.tells rd)
+
+module _ {S : Type 0} (r : run.Server S) (config : ConfigValue) (table : RouteTable) where
+  pub later_kept : (ns : List NoteValue) (c : ℕ) (space : List ℕ) (s : Server) (net : NetState) (now : S) (intakes : ℕ → IntakeView) → Kept r config table ns s now intakes None → Reads c space read.Later s.net net
+      → Kept r config table ns (server s.hub net s.told) now intakes None
+  later_kept ns c space s net now intakes k rd = record {
+    agrees = agrees_read (world r ns) ns s c space read.Later net k.agrees rd;
+    follows = later_read c space ns s.net net k.agrees.tells k.follows rd;
+    ordered = k.ordered;
+    state = k.state;
+    unlike = k.unlike;
+    configured = k.configured;
+    hears = λ d. subst (λ (z : List ℕ). HearsAt table config.max_message (phase r ns d) (heard d ns) z (intakes d).reader) (sym (given d)) (k.hears d);
+    rests = λ d free. subst (λ (z : List ℕ). RestsAt table (phase r ns d) z (intakes d).reader) (sym (given d)) (k.rests d free);
+    routed = k.routed;
+  }
+    where
+      given : (d : ℕ) → net.given d ≡ s.net.given d
+      given d = same_or_not c d (λ e. subst (λ (z : ℕ). net.given z ≡ s.net.given z) (sym e) (rd.told k.agrees.tells).given) (λ ne. (rd.told k.agrees.tells).elsewhere.given d ne)
+
+  pub given_kept : (ns after : List NoteValue) (conn count : ℕ) (space : List ℕ) (s b : Server) (net : NetState) (now : S) (intakes fed : ℕ → IntakeView)
+      → Kept r config table ns s now intakes None → Reads conn space (read.Octets count) s.net net → IsTable (table_of s.hub) → IsTable (table_of b.hub) → is_reading (phase_at s.hub conn) ≡ true
+      → Makes (note.given conn count ∷ []) (server s.hub net s.told) b → Appends nothing (server s.hub net s.told) b → b.told ≡ Some after
+      → SameButReader conn intakes fed → IsFed (take count space) (intakes conn).reader (fed conn).reader
+      → Kept r config table (ns ++ note.given conn count ∷ []) b now fed (Some conn)
+  given_kept ns after conn count space s b net now intakes fed k rd before later is makes app told same came =
+      kept_call r config table conn ns n own [] refl s b now intakes fed None (Some conn) k (λ c ne. none_other c)
+      (agrees_quiet r (world r ns) ns after (n ∷ []) between b (agrees_read (world r ns) ns s conn space (read.Octets count) net k.agrees rd) makes.advances app told refl)
+      (octets_read conn space s.net net b.net k.agrees.tells ns k.follows count rd makes.advances.net makes.fails)
+      app.lines.config (entries_stay n [] between b refl refl makes.advances before later) same
+      (λ c ne. after_read c ∙ (rd.told k.agrees.tells).elsewhere.given c ne)
+      (subst (λ (z : Option Phase). HearsAt table config.max_message z (heard conn (ns ++ n ∷ [])) (b.net.given conn) (fed conn).reader) (sym (moves_own r config table conn ns n own))
+      (subst (λ (z : List Heard). HearsAt table config.max_message (moved (phase r ns conn) n) z (b.net.given conn) (fed conn).reader) (sym (heard_unheard conn ns (n ∷ []) refl))
+      (subst (λ (z : List ℕ). HearsAt table config.max_message (moved (phase r ns conn) n) (heard conn ns) z (fed conn).reader) (sym (after_read conn ∙ (rd.told k.agrees.tells).given))
+      (fed_at table config.max_message (phase r ns conn) conn count (heard conn ns) (s.net.given conn) (take count space) (intakes conn).reader (fed conn).reader
+      (reading_by (world r ns) ns s k.agrees conn is) came (k.hears conn)))))
+      (λ ne. absurd (ne refl))
+    where
+      n : NoteValue
+      n = note.given conn count
+
+      between : Server
+      between = server s.hub net s.told
+
+      own : IsOwn conn n
+      own = own_note conn n refl refl refl (λ c. refl)
+
+      after_read : (c : ℕ) → b.net.given c ≡ net.given c
+      after_read c = (makes.advances.net.told (rd.net.tells ∙ k.agrees.tells)).given c
+
+  gone_kept : (ns after : List NoteValue) (conn : ℕ) (left : Left) (space : List ℕ) (result : NetRead) (s b : Server) (net : NetState) (now : S) (intakes : ℕ → IntakeView)
+      → Kept r config table ns s now intakes None → Reads conn space result s.net net → net.given conn ≡ s.net.given conn → IsTable (table_of s.hub) → IsTable (table_of b.hub) → is_reading (phase_at s.hub conn) ≡ true
+      → Advances (note.gone conn left ∷ []) (server s.hub net s.told) b → Appends nothing (server s.hub net s.told) b → b.told ≡ Some after
+      → Follows (ns ++ note.gone conn left ∷ []) b.net → Kept r config table (ns ++ note.gone conn left ∷ []) b now intakes None
+  gone_kept ns after conn left space result s b net now intakes k rd still before later is adv app told follows =
+      kept_call r config table conn ns n own [] refl s b now intakes intakes None None k (λ c ne. none_other c)
+      (agrees_quiet r (world r ns) ns after (n ∷ []) between b (agrees_read (world r ns) ns s conn space result net k.agrees rd) adv app told refl)
+      follows app.lines.config (entries_stay n [] between b refl refl adv before later) (same_intakes conn intakes)
+      (λ c ne. after_read c ∙ (rd.told k.agrees.tells).elsewhere.given c ne)
+      (subst (λ (z : Option Phase). HearsAt table config.max_message z (heard conn (ns ++ n ∷ [])) (b.net.given conn) (intakes conn).reader) (sym moves)
+      (subst (λ (z : List Heard). HearsFront table config.max_message z (b.net.given conn)) (sym (heard_unheard conn ns (n ∷ []) refl))
+      (subst (λ (z : List ℕ). HearsFront table config.max_message (heard conn ns) z) (sym (after_read conn ∙ still))
+      (hears_on table config.max_message (heard conn ns) (s.net.given conn) (intakes conn).reader (phase r ns conn) (Some Gone) (k.hears conn)
+      (rests_judged table config.max_message (heard conn ns) (s.net.given conn) (intakes conn).reader (phase r ns conn) (k.rests conn (none_other conn)))
+      (inr (refl, reading_is (phase r ns conn) was))))))
+      (λ free. subst (λ (z : Option Phase). RestsAt table z (b.net.given conn) (intakes conn).reader) (sym moves) (tt {0}))
+    where
+      n : NoteValue
+      n = note.gone conn left
+
+      between : Server
+      between = server s.hub net s.told
+
+      own : IsOwn conn n
+      own = own_note conn n refl refl refl (λ c. refl)
+
+      was : is_reading (phase r ns conn) ≡ true
+      was = reading_by (world r ns) ns s k.agrees conn is
+
+      moves : phase r (ns ++ n ∷ []) conn ≡ Some Gone
+      moves = moves_own r config table conn ns n own ∙ gone_by (phase r ns conn) conn left was
+
+      after_read : (c : ℕ) → b.net.given c ≡ net.given c
+      after_read c = (adv.net.told (rd.net.tells ∙ k.agrees.tells)).given c
+
+  pub ended_kept : (ns after : List NoteValue) (conn : ℕ) (space : List ℕ) (s b : Server) (net : NetState) (now : S) (intakes : ℕ → IntakeView)
+      → Kept r config table ns s now intakes None → Reads conn space read.End s.net net → IsTable (table_of s.hub) → IsTable (table_of b.hub) → is_reading (phase_at s.hub conn) ≡ true
+      → Makes (note.gone conn PeerEnd ∷ []) (server s.hub net s.told) b → Appends nothing (server s.hub net s.told) b → b.told ≡ Some after
+      → Kept r config table (ns ++ note.gone conn PeerEnd ∷ []) b now intakes None
+  ended_kept ns after conn space s b net now intakes k rd before later is makes app told =
+      gone_kept ns after conn PeerEnd space read.End s b net now intakes k rd (rd.told k.agrees.tells).given before later is makes.advances app told
+      (end_read conn space s.net net b.net k.agrees.tells ns k.follows rd makes.advances.net makes.fails)
+
+  pub failed_kept : (ns after : List NoteValue) (conn : ℕ) (space : List ℕ) (s b : Server) (net : NetState) (now : S) (intakes : ℕ → IntakeView)
+      → Kept r config table ns s now intakes None → Reads conn space read.Failed s.net net → IsTable (table_of s.hub) → IsTable (table_of b.hub) → is_reading (phase_at s.hub conn) ≡ true
+      → Advances (note.gone conn LinkFailed ∷ []) (server s.hub net s.told) b → FailsAfter [] net b.net → Appends nothing (server s.hub net s.told) b → b.told ≡ Some after
+      → Kept r config table (ns ++ note.gone conn LinkFailed ∷ []) b now intakes None
+  failed_kept ns after conn space s b net now intakes k rd before later is adv fails app told =
+      gone_kept ns after conn LinkFailed space read.Failed s b net now intakes k rd (rd.told k.agrees.tells).given before later is adv app told
+      (fault_read conn space s.net net b.net k.agrees.tells ns k.follows rd adv.net fails)
+
+  -- ---- no more can be told
+
+  pub waits_kept : (ns : List NoteValue) (conn : ℕ) (s : Server) (now : S) (intakes : ℕ → IntakeView) → Kept r config table ns s now intakes (Some conn) → phase_at s.hub conn ≡ Some Head
+      → Judged table (s.net.given conn) undecided → Kept r config table ns s now intakes None
+  waits_kept ns conn s now intakes k is judged = record {
+    agrees = k.agrees;
+    follows = k.follows;
+    ordered = k.ordered;
+    state = k.state;
+    unlike = k.unlike;
+    configured = k.configured;
+    hears = k.hears;
+    rests = λ d free. same_or_not conn d
+        (λ e. subst (λ (z : ℕ). RestsAt table (phase r ns z) (s.net.given z) (intakes z).reader) (sym e)
+        (subst (λ (z : Option Phase). RestsAt table z (s.net.given conn) (intakes conn).reader) (sym (agrees_told_phase (world r ns) ns s k.agrees conn Head refl is)) judged))
+        (λ ne. k.rests d (some_other conn d ne));
+    routed = k.routed;
+  }
+
+  pub stepped_kept : (ns : List NoteValue) (conn : ℕ) (s : Server) (now : S) (intakes news : ℕ → IntakeView) (t : Step) → Kept r config table ns s now intakes (Some conn) → has_frames (phase_at s.hub conn) ≡ true
+      → SameButReader conn intakes news → HasStepped (intakes conn).reader t (news conn).reader → IsMore t → Kept r config table ns s now news None
+  stepped_kept ns conn s now intakes news t k is same steps none = record {
+    agrees = k.agrees;
+    follows = k.follows;
+    ordered = k.ordered;
+    state = k.state;
+    unlike = k.unlike;
+    configured = k.configured;
+    hears = λ d. same_or_not conn d
+        (λ e. subst (λ (z : ℕ). HearsAt table config.max_message (phase r ns z) (heard z ns) (s.net.given z) (news z).reader) (sym e)
+        (at_frames table config.max_message (phase r ns conn) (heard conn ns) (s.net.given conn) (news conn).reader was
+        (frames_more table config.max_message (heard conn ns) (s.net.given conn) t (intakes conn).reader (news conn).reader
+        (frames_at table config.max_message (phase r ns conn) (heard conn ns) (s.net.given conn) (intakes conn).reader was (k.hears conn)) steps none).0))
+        (λ ne. subst (λ (z : IntakeView). HearsAt table config.max_message (phase r ns d) (heard d ns) (s.net.given d) z.reader) (sym (same.others d ne)) (k.hears d));
+    rests = λ d free. same_or_not conn d
+        (λ e. subst (λ (z : ℕ). RestsAt table (phase r ns z) (s.net.given z) (news z).reader) (sym e)
+        (rests_at table (phase r ns conn) (s.net.given conn) (news conn).reader t (intakes conn).reader was steps none))
+        (λ ne. subst (λ (z : IntakeView). RestsAt table (phase r ns d) (s.net.given d) z.reader) (sym (same.others d ne)) (k.rests d (some_other conn d ne)));
+    routed = λ d there. same_or_not conn d
+        (λ e. subst (λ (z : ℕ). IsRouted (intakes z) ((world r ns).line z) → IsRouted (news z) ((world r ns).line z)) (sym e) (λ y. (same.route ∙ y.0, same.param ∙ y.1)) (k.routed d there))
+        (λ ne. subst (λ (z : IntakeView). IsRouted z ((world r ns).line d)) (sym (same.others d ne)) (k.routed d there));
+  }
+    where
+      was : has_frames (phase r ns conn) ≡ true
+      was = frames_by (world r ns) ns s k.agrees conn is
+
+  -- ---- what came is told
+
+  sends_kept : (conn : ℕ) (ns after : List NoteValue) (n : NoteValue) (f : ℕ → List Item) (a b : Server) (now : S) (intakes news : ℕ → IntakeView) (later : Option ℕ) (p : Option Phase) (x : Proceeds (n ∷ []) [] a b)
+      → Kept r config table ns a now intakes (Some conn) → IsTable (table_of a.hub) → IsTable (table_of b.hub) → IsOwn conn n → list_all is_unread (n ∷ []) ≡ true → gather marks_by (n ∷ []) ≡ []
+      → is_closed n ≡ false → ((c : ℕ) → ((noted r n (world r ns)).line c).items ≡ ((world r ns).line c).items ++ f c) → Appends f a b → b.told ≡ Some after
+      → SameButReader conn intakes news → moved (phase r ns conn) n ≡ p → p ≢ Some Head
+      → HearsAt table config.max_message p (heard conn (ns ++ n ∷ [])) (a.net.given conn) (news conn).reader
+      → (later ≢ Some conn → RestsAt table p (a.net.given conn) (news conn).reader)
+      → (after ≡ ns ++ n ∷ x.sending) × Kept r config table after b now news later
+  sends_kept conn ns after n f a b now intakes news later p x k before after_is own unread unmarked none items app told same moves ne hears rests =
+      (after_all, subst (λ (z : List NoteValue). Kept r config table z b now news later) (sym after_all) all)
+    where
+      given : (c : ℕ) → b.net.given c ≡ a.net.given c
+      given c = (x.advances.net.told k.agrees.tells).given c
+
+      agrees : Agrees (noted_all r x.sending (noted r n (world r ns))) (ns ++ n ∷ x.sending) b
+      agrees = agrees_note r (world r ns) ns after n f a b x k.agrees app told own.accepts none items
+
+      after_all : after ≡ ns ++ n ∷ x.sending
+      after_all = told_both (ns ++ n ∷ x.sending) after b.told agrees.told told
+
+      now_is : phase r (ns ++ n ∷ []) conn ≡ p
+      now_is = moves_own r config table conn ns n own ∙ moves
+
+      all : Kept r config table (ns ++ n ∷ x.sending) b now news later
+      all = kept_call r config table conn ns n own x.sending x.outgoing a b now intakes news (Some conn) later k (λ c other. some_other conn c other) agrees
+          (none_but (ns ++ n ∷ x.sending) b.net (subst (λ (z : List NoteValue). FollowsBut [] (ns ++ n ∷ z) b.net) (append-nil x.sending)
+          (proceeds_follows ns (n ∷ []) [] [] [] [] a b k.agrees.tells unread unmarked refl x (but_none ns a.net k.follows))))
+          app.lines.config
+          (entries_stay n x.sending a b own.accepts x.outgoing (subst (λ (z : List NoteValue). Advances (n ∷ z) a b) (append-nil x.sending) x.advances) before after_is)
+          same (λ c other. given c)
+          (subst (λ (z : List ℕ). HearsAt table config.max_message (phase r (ns ++ n ∷ x.sending) conn) (heard conn (ns ++ n ∷ x.sending)) z (news conn).reader) (sym (given conn))
+          (hears_sent r config table conn ns n own x.sending x.outgoing (a.net.given conn) (news conn).reader (λ e. ne (sym now_is ∙ e))
+          (subst (λ (z : Option Phase). HearsAt table config.max_message z (heard conn (ns ++ n ∷ [])) (a.net.given conn) (news conn).reader) (sym now_is) hears)))
+          (λ free. subst (λ (z : List ℕ). RestsAt table (phase r (ns ++ n ∷ x.sending) conn) z (news conn).reader) (sym (given conn))
+          (rests_sent r config table conn ns n own x.sending x.outgoing (a.net.given conn) (news conn).reader
+          (subst (λ (z : Option Phase). RestsAt table z (a.net.given conn) (news conn).reader) (sym now_is) (rests free))))
+
+  -- what is kept where the reader told an event
+  heard_step : (conn : ℕ) (ns : List NoteValue) (event : Event) (t : Step) → events_of t ≡ event ∷ [] → heard conn ns ++ map life.read (events_of t) ≡ heard conn (ns ++ note_of_event conn event ∷ [])
+  heard_step conn ns event t e = ap (λ (z : List Event). heard conn ns ++ map life.read z) e ∙ sym (heard_then_event conn event ns)
+
+  open_of : (ns : List NoteValue) (s : Server) (conn : ℕ) → Agrees (world r ns) ns s → phase_at s.hub conn ≡ Some Open → phase r ns conn ≡ Some Open
+  open_of ns s conn x is = agrees_told_phase (world r ns) ns s x conn Open refl is
+
+  has_open : (p : Option Phase) → p ≡ Some Open → has_frames p ≡ true
+  has_open p e = ap (λ (z : Option Phase). has_frames z) e
+
+  read_at : (conn : ℕ) (ns : List NoteValue) (event : Event) (t : Step) (os : List ℕ) (old new : Reader) → has_frames (phase r ns conn) ≡ true → events_of t ≡ event ∷ [] → HasStepped old t new
+      → HearsAt table config.max_message (phase r ns conn) (heard conn ns) os old → HearsFrames table config.max_message (heard conn (ns ++ note_of_event conn event ∷ [])) os new
+  read_at conn ns event t os old new has e steps h =
+      subst (λ (z : List Heard). HearsFrames table config.max_message z os new) (heard_step conn ns event t e)
+      (frames_stepped table config.max_message (heard conn ns) os t old new (frames_at table config.max_message (phase r ns conn) (heard conn ns) os old has h) steps)
+
+  last_at : (conn : ℕ) (ns : List NoteValue) (event : Event) (t : Step) (os : List ℕ) (old new : Reader) → has_frames (phase r ns conn) ≡ true → events_of t ≡ event ∷ [] → is_last t ≡ true → HasStepped old t new
+      → HearsAt table config.max_message (phase r ns conn) (heard conn ns) os old → IsLife table config.max_message os (heard conn (ns ++ note_of_event conn event ∷ []))
+  last_at conn ns event t os old new has e last steps h =
+      subst (λ (z : List Heard). IsLife table config.max_message os z) (heard_step conn ns event t e)
+      (frames_last table config.max_message (heard conn ns) os t old new (frames_at table config.max_message (phase r ns conn) (heard conn ns) os old has h) steps last)
+
+  pub refused_kept : (ns after : List NoteValue) (conn status : ℕ) (a b : Server) (now : S) (intakes : ℕ → IntakeView) (x : Proceeds (note.head conn status ∷ []) [] a b)
+      → Kept r config table ns a now intakes (Some conn) → IsTable (table_of a.hub) → IsTable (table_of b.hub) → phase_at a.hub conn ≡ Some Head → Judged table (a.net.given conn) (refuse status)
+      → Appends (only conn (reply (refusal_text status))) a b → b.told ≡ Some after
+      → (after ≡ ns ++ note.head conn status ∷ x.sending) × Kept r config table after b now intakes None
+  refused_kept ns after conn status a b now intakes x k before later is judged app told =
+      sends_kept conn ns after (note.head conn status) (only conn (reply (refusal_text status))) a b now intakes intakes None (Some Ending) x k before later
+      (own_note conn (note.head conn status) refl refl refl (λ c. refl)) refl refl refl (λ c. items_head r (world r ns) conn c status (refusal_text status) refl) app told
+      (same_intakes conn intakes) (ap (λ (z : Option Phase). moved z (note.head conn status)) was) (λ e. cc)
+      (subst (λ (z : List Heard). IsLife table config.max_message (a.net.given conn) z) (sym (heard_then_head conn status ns))
+      (then_refused table config.max_message (heard conn ns) (a.net.given conn) (intakes conn).reader status
+      (subst (λ (z : Option Phase). HearsAt table config.max_message z (heard conn ns) (a.net.given conn) (intakes conn).reader) was (k.hears conn)) judged))
+      (λ free. tt {0})
+    where
+      was : phase r ns conn ≡ Some Head
+      was = agrees_told_phase (world r ns) ns a k.agrees conn Head refl is
+
+  pub ping_kept : (ns after : List NoteValue) (conn : ℕ) (body : List ℕ) (a b : Server) (now : S) (intakes news : ℕ → IntakeView) (t : Step) (x : Proceeds (note.ping_got conn body ∷ []) [] a b)
+      → Kept r config table ns a now intakes (Some conn) → IsTable (table_of a.hub) → IsTable (table_of b.hub) → phase_at a.hub conn ≡ Some Open
+      → SameButReader conn intakes news → HasStepped (intakes conn).reader t (news conn).reader → events_of t ≡ wire.ping body ∷ []
+      → Appends (only conn (whole Pong body)) a b → b.told ≡ Some after
+      → (after ≡ ns ++ note.ping_got conn body ∷ x.sending) × Kept r config table after b now news (Some conn)
+  ping_kept ns after conn body a b now intakes news t x k before later is same steps e app told =
+      sends_kept conn ns after (note.ping_got conn body) (only conn (whole Pong body)) a b now intakes news (Some conn) (Some Open) x k before later
+      (own_note conn (note.ping_got conn body) refl refl refl (λ c. refl)) refl refl refl (λ c. items_ping r (world r ns) conn c body) app told
+      same (ap (λ (z : Option Phase). moved z (note.ping_got conn body)) was) (λ q. cc)
+      (read_at conn ns (wire.ping body) t (a.net.given conn) (intakes conn).reader (news conn).reader (has_open (phase r ns conn) was) e steps (k.hears conn))
+      (λ free. absurd (free refl))
+    where
+      was : phase r ns conn ≡ Some Open
+      was = open_of ns a conn k.agrees is
+
+  pub pong_kept : (ns after : List NoteValue) (conn : ℕ) (body : List ℕ) (a b : Server) (now : S) (intakes news : ℕ → IntakeView) (t : Step)
+      → Kept r config table ns a now intakes (Some conn) → IsTable (table_of a.hub) → IsTable (table_of b.hub) → phase_at a.hub conn ≡ Some Open
+      → SameButReader conn intakes news → HasStepped (intakes conn).reader t (news conn).reader → events_of t ≡ wire.pong body ∷ []
+      → Makes (note.pong_got conn body ∷ []) a b → Appends nothing a b → b.told ≡ Some after
+      → (after ≡ ns ++ note.pong_got conn body ∷ []) × Kept r config table after b now news (Some conn)
+  pong_kept ns after conn body a b now intakes news t k before later is same steps e makes app told =
+      sends_kept conn ns after (note.pong_got conn body) nothing a b now intakes news (Some conn) (Some Open)
+      (record { sending = []; outgoing = refl; advances = makes.advances; fails = makes.fails }) k before later
+      (own_note conn (note.pong_got conn body) refl refl refl (λ c. refl)) refl refl refl
+      (λ c. wordless_line r c (note.pong_got conn body) ((world r ns).line c) refl ∙ sym (append-nil ((world r ns).line c).items)) app told
+      same (ap (λ (z : Option Phase). moved z (note.pong_got conn body)) was) (λ q. cc)
+      (read_at conn ns (wire.pong body) t (a.net.given conn) (intakes conn).reader (news conn).reader (has_open (phase r ns conn) was) e steps (k.hears conn))
+      (λ free. absurd (free refl))
+    where
+      was : phase r ns conn ≡ Some Open
+      was = open_of ns a conn k.agrees is
+
+  -- a close frame goes out where the hub has the connection open, which is where its notes do
+  served_by : (ns : List NoteValue) (a : Server) (conn c : ℕ) (item : Item) → Agrees (world r ns) ns a
+      → ((world r ns).line c).items ++ served (is_open (phase r ns conn)) (only conn item) c ≡ ((world r ns).line c).items ++ served (is_open (phase_at a.hub conn)) (only conn item) c
+  served_by ns a conn c item x = ap (λ (z : Bool). ((world r ns).line c).items ++ served z (only conn item) c) (sym (agrees_open (world r ns) ns a x conn))
+
+  pub close_kept : (ns after : List NoteValue) (conn code : ℕ) (reason : List ℕ) (a b : Server) (now : S) (intakes news : ℕ → IntakeView) (t : Step) (x : Proceeds (note.peer_close conn code reason ∷ []) [] a b)
+      → Kept r config table ns a now intakes (Some conn) → IsTable (table_of a.hub) → IsTable (table_of b.hub) → has_frames (phase_at a.hub conn) ≡ true
+      → SameButReader conn intakes news → HasStepped (intakes conn).reader t (news conn).reader → events_of t ≡ wire.closed code reason ∷ []
+      → Appends (served (is_open (phase_at a.hub conn)) (only conn (close_item code))) a b → b.told ≡ Some after
+      → (after ≡ ns ++ note.peer_close conn code reason ∷ x.sending) × Kept r config table after b now news None
+  close_kept ns after conn code reason a b now intakes news t x k before later is same steps e app told =
+      sends_kept conn ns after (note.peer_close conn code reason) (served (is_open (phase_at a.hub conn)) (only conn (close_item code))) a b now intakes news None (Some Ending) x k before later
+      (own_note conn (note.peer_close conn code reason) refl refl refl (λ c. refl)) refl refl refl
+      (λ c. items_close r (world r ns) conn c code reason ∙ served_by ns a conn c (close_item code) k.agrees) app told
+      same (close_by (phase r ns conn) conn code reason was) (λ q. cc)
+      (last_at conn ns (wire.closed code reason) t (a.net.given conn) (intakes conn).reader (news conn).reader was e (last_of t code reason e) steps (k.hears conn))
+      (λ free. tt {0})
+    where
+      was : has_frames (phase r ns conn) ≡ true
+      was = frames_by (world r ns) ns a k.agrees conn is
+
+  pub failure_kept : (ns after : List NoteValue) (conn code : ℕ) (a b : Server) (now : S) (intakes news : ℕ → IntakeView) (t : Step) (x : Proceeds (note.failed conn code ∷ []) [] a b)
+      → Kept r config table ns a now intakes (Some conn) → IsTable (table_of a.hub) → IsTable (table_of b.hub) → has_frames (phase_at a.hub conn) ≡ true
+      → SameButReader conn intakes news → HasStepped (intakes conn).reader t (news conn).reader → events_of t ≡ wire.failed code ∷ []
+      → Appends (served (is_open (phase_at a.hub conn)) (only conn (close_item code))) a b → b.told ≡ Some after
+      → (after ≡ ns ++ note.failed conn code ∷ x.sending) × Kept r config table after b now news None
+  failure_kept ns after conn code a b now intakes news t x k before later is same steps e app told =
+      sends_kept conn ns after (note.failed conn code) (served (is_open (phase_at a.hub conn)) (only conn (close_item code))) a b now intakes news None (Some Ending) x k before later
+      (own_note conn (note.failed conn code) refl refl refl (λ c. refl)) refl refl refl
+      (λ c. items_failed r (world r ns) conn c code ∙ served_by ns a conn c (close_item code) k.agrees) app told
+      same (fail_by (phase r ns conn) conn code was) (λ q. cc)
+      (last_at conn ns (wire.failed code) t (a.net.given conn) (intakes conn).reader (news conn).reader was e (failed_of t code e) steps (k.hears conn))
+      (λ free. tt {0})
+    where
+      was : has_frames (phase r ns conn) ≡ true
+      was = frames_by (world r ns) ns a k.agrees conn is

@@ -1,0 +1,186 @@
+-- What is kept after a turn is what the relation of a run asks for.
+use Rattle.std.proofs.Common.{◌≡◌, ◌≢◌, ◌<◌, ◌^◌, ◌-◌, inl, inr, ◌⊎◌, ℕ, List, [], ◌∷◌, ◌++◌, Option, Some, None, Bool, true, false, cond, not, ◌&&◌, length, refl, sym, ap, ◌∙◌, subst}
+use Rattle.ws_kinds.specs.declared.note.Phase.{Phase}
+use Rattle.ws_kinds.specs.declared.note.Phase.TheVariants.{Head, Open, Leaving, Ending, Gone}
+use Rattle.ws_kinds.specs.ConfigValue.{ConfigValue}
+use Rattle.ws_kinds.specs.NoteValue.{NoteValue}
+use Rattle.route_table.specs.Table.{RouteTable}
+use Rattle.frame_reader.specs.declared.reader.Reader.{Reader}
+use Rattle.run_meaning.specs.Counts.{closes, is_accepted}
+use Rattle.run_meaning.specs.Server as run
+use Rattle.run_meaning.specs.Lines.{is_gone_phase, phase, plain, world}
+use Rattle.run_meaning.specs.Life.{heard, Lived, Carries, Carried}
+use Rattle.run_meaning.specs.Kept as meaning
+use Rattle.wire_meaning.specs.Answer.{all_spelled}
+use Rattle.run_meaning.specs.Settled as meant
+use Rattle.run_meaning.specs.Settled.{LeftAtEnd, is_reading, is_ending}
+use Rattle.run_meaning.specs.Right.{Sound, Right}
+use Rattle.hub_lines.specs.State.{Server, has_entry, entry_at, is_gone, is_present, phase_at, ring_at}
+use Rattle.hub_lines.specs.Lines.{held_at, held_octets}
+use Rattle.hub_lines.specs.Calls.{Settled, Ties}
+use Rattle.hub_lines.proofs.CallLemmas.{settled_held}
+use Rattle.hub_notes.specs.Fronts.{RingsWait}
+use Rattle.hub_notes.specs.Progress.{unless_gone, due_at}
+use Rattle.hub_notes.proofs.BoolLemmas.{by_cases, clash}
+use Rattle.hub_notes.proofs.TieLemmas.{away_by_phase}
+use Rattle.hub_table.specs.Table.{IsTable, table_of}
+use Rattle.hub_runs.proofs.RestLemmas.{there_by_phase, away_by_gone}
+use Rattle.hub_runs.proofs.AgreeLemmas.{rests_of, agrees_due, agrees_told, agrees_untold}
+use Rattle.hub_runs.proofs.HubLemmas.{agrees_hub_phase}
+use Rattle.hub_runs.proofs.CarryLemmas.{accepted_known, agrees_carried, agrees_phase}
+use Rattle.hub_runs.proofs.CountLemmas.{unaccepted_phase}
+use Rattle.run_heard.proofs.Hearing.{head_waits, frames_end}
+use Rattle.run_heard.proofs.Lives.{lived_of_life, lived_of_front}
+use Rattle.run_kept.specs.Ends.{AreThere, backlog_at}
+use Rattle.run_kept.specs.Read.{AreRead}
+use Rattle.run_kept.specs.Kept.{IntakeView, HearsAt, RestsAt, Kept}
+use Rattle.run_kept.proofs.PassingLemmas.{none_reads}
+use Rattle.run_kept.proofs.EndLemmas.{ring_there}
+use Rattle.run_kept.proofs.ReadLemmas.{reading_shown}
+
+-- ---- bits
+
+both_ways : (a b : Bool) → (a ≡ true → b ≡ true) → (b ≡ true → a ≡ true) → a ≡ b
+both_ways true b to from = sym (to refl)
+both_ways false true to from = from refl
+both_ways false false to from = refl
+
+ending_is : (p : Option Phase) → is_ending p ≡ true → p ≡ Some Ending
+ending_is None e = clash false refl e
+ending_is (Some Head) e = clash false refl e
+ending_is (Some Open) e = clash false refl e
+ending_is (Some Leaving) e = clash false refl e
+ending_is (Some Ending) e = refl
+ending_is (Some Gone) e = clash false refl e
+
+ending_away : (p : Phase) (has : Bool) → not (is_gone p) ≡ false → cond has (Some p) None ≡ Some Ending → ⊥
+ending_away Head has away e = clash true away refl
+ending_away Open has away e = clash true away refl
+ending_away Leaving has away e = clash true away refl
+ending_away Ending has away e = clash true away refl
+ending_away Gone true away e = let z : Some Gone ≡ Some Ending = e in cc
+ending_away Gone false away e = let z : None ≡ Some Ending = e in cc
+
+module _ {S : Type 0} (r : run.Server S) (f : ConfigValue) (t : RouteTable) (ns : List NoteValue) (s : Server) (now : S) (is : ℕ → IntakeView) (k : Kept r f t ns s now is None) where
+  -- ---- the relation of a run
+
+  life_of : (c : ℕ) (p : Option Phase) (octets : List ℕ) (d : Reader) → phase r ns c ≡ p → HearsAt t f.max_message p (heard c ns) octets d → RestsAt t p octets d → p ≢ None → Lived r t f.max_message ns c octets
+  life_of c None octets d e x y known = absurd (known refl)
+  life_of c (Some Head) octets d e x y known = lived_of_life r t f.max_message ns c octets (head_waits t f.max_message (heard c ns) octets d x y)
+  life_of c (Some Open) octets d e x y known = lived_of_life r t f.max_message ns c octets (frames_end t f.max_message (heard c ns) octets d x y)
+  life_of c (Some Leaving) octets d e x y known = lived_of_life r t f.max_message ns c octets (frames_end t f.max_message (heard c ns) octets d x y)
+  life_of c (Some Ending) octets d e x y known = lived_of_life r t f.max_message ns c octets x
+  life_of c (Some Gone) octets d e x y known = lived_of_front r t f.max_message ns c octets x (ap is_gone_phase e)
+
+  pub kept_lived : (c : ℕ) → is_accepted c ns ≡ true → Lived r t f.max_message ns c (s.net.given c)
+  kept_lived c there = life_of c (phase r ns c) (s.net.given c) (is c).reader refl (k.hears c) (k.rests c (none_reads c)) (accepted_known r c ns there)
+
+  -- who is there is who was accepted and is not gone
+  pub there_is : (c : ℕ) → is_present s.hub c ≡ (is_accepted c ns && not (is_gone_phase (phase r ns c)))
+  there_is c =
+      let p = phase r ns c in
+      let shown = (rests_of c ((world r ns).line c) ns s (k.agrees.lines c)).shown in
+      by_cases (is_accepted c ns)
+      (λ was. by_cases (is_gone_phase p)
+      (λ gone. away_by_gone s.hub c p shown gone ∙ sym (ap (λ (z : Bool). z && not (is_gone_phase p)) was ∙ ap not gone))
+      (λ stays. there_by_phase s.hub c p shown (accepted_known r c ns was) stays ∙ sym (ap (λ (z : Bool). z && not (is_gone_phase p)) was ∙ ap not stays)))
+      (λ new. away_by_phase s.hub c (shown ∙ ap unless_gone (unaccepted_phase r c ns new)) ∙ sym (ap (λ (z : Bool). z && not (is_gone_phase p)) new))
+
+  -- where a connection is there, this is what its ring holds
+  abbrev IsHeld : (ℕ → List ℕ) → Type 0
+  IsHeld held = (c : ℕ) → is_present s.hub c ≡ true → held c ≡ ring_at s.hub c
+
+  carries_any : (gone : Bool) (took held other octets : List ℕ) → gone ≡ true → Carries gone took held octets → Carries gone took other octets
+  carries_any true took held other octets e x = x
+  carries_any false took held other octets e x = clash false refl e
+
+  gone_if_away : (was gone : Bool) → (was && not gone) ≡ false → was ≡ true → gone ≡ true
+  gone_if_away true true e h = refl
+  gone_if_away true false e h = clash true e refl
+  gone_if_away false gone e h = clash false refl h
+
+  carried_by : (held : ℕ → List ℕ) → IsHeld held → Settled s.hub → (c : ℕ) → length (plain r ns c) < 2 ^ 64 - 1 → is_accepted c ns ≡ true → Carried r ns c (s.net.taken c) (held c)
+  carried_by held is_held settled c few there =
+      let carried = agrees_carried r ns s k.agrees settled c few there in
+      by_cases (is_present s.hub c)
+      (λ present. subst (λ (z : List ℕ). Carried r ns c (s.net.taken c) z) (sym (is_held c present)) carried)
+      (λ away. carries_any (is_gone_phase (phase r ns c)) (s.net.taken c) (ring_at s.hub c) (held c) (all_spelled (meaning.kept r ns c))
+      (gone_if_away (is_accepted c ns) (is_gone_phase (phase r ns c)) (sym (there_is c) ∙ away) there) carried)
+
+  right_by : (held : ℕ → List ℕ) → IsHeld held → Settled s.hub → ((c : ℕ) → length (plain r ns c) < 2 ^ 64 - 1)
+      → ((before rest : List NoteValue) (n : NoteValue) → ns ≡ before ++ n ∷ rest → Sound r f before n) → Right r f t ns s.net now held
+  right_by held is_held settled few sound = record {
+    ordered = k.ordered;
+    follows = k.follows;
+    lived = kept_lived;
+    carried = λ c there. carried_by held is_held settled c (few c) there;
+    state = k.state;
+    sound = sound;
+  }
+
+  pub kept_right : Settled s.hub → ((c : ℕ) → length (plain r ns c) < 2 ^ 64 - 1) → ((before rest : List NoteValue) (n : NoteValue) → ns ≡ before ++ n ∷ rest → Sound r f before n)
+      → Right r f t ns s.net now (ring_at s.hub)
+  kept_right settled few sound = right_by (ring_at s.hub) (λ c present. refl) settled few sound
+
+  backlog_is : IsHeld (backlog_at s.hub)
+  backlog_is c present = ap (λ (z : Bool). cond z (ring_at s.hub c) []) present
+
+  pub kept_right_there : Settled s.hub → ((c : ℕ) → length (plain r ns c) < 2 ^ 64 - 1) → ((before rest : List NoteValue) (n : NoteValue) → ns ≡ before ++ n ∷ rest → Sound r f before n)
+      → Right r f t ns s.net now (backlog_at s.hub)
+  kept_right_there settled few sound = right_by (backlog_at s.hub) backlog_is settled few sound
+
+  -- ---- what holds after a turn
+
+  reading_is : (c : ℕ) → is_reading (phase_at s.hub c) ≡ is_reading (phase r ns c)
+  reading_is c = sym (reading_shown (phase_at s.hub c)) ∙ ap is_reading (agrees_phase (world r ns) ns s k.agrees c) ∙ reading_shown (phase r ns c)
+
+  told_or_left : (c : ℕ) (cause : ℕ × List ℕ) (due : Option (ℕ × List ℕ)) → due_at s.hub c ≡ due → ((other : ℕ × List ℕ) → due ≡ Some other → LeftAtEnd r c ns) → ((world r ns).line c).left_open ≡ Some cause
+      → (closes c ns ≡ cause ∷ []) ⊎ ((closes c ns ≡ []) × LeftAtEnd r c ns)
+  told_or_left c cause None e left left_it = inl (agrees_told (world r ns) ns s k.agrees c cause e left_it)
+  told_or_left c cause (Some other) e left left_it = inr ((agrees_due (world r ns) ns s k.agrees c other e).1, left other refl)
+
+  ending_there : (c : ℕ) → phase_at s.hub c ≡ Some Ending → is_present s.hub c ≡ true
+  ending_there c e = by_cases (is_present s.hub c) (λ t. t)
+      (λ away. absurd (ending_away (entry_at s.hub c).phase (has_entry s.hub.entries c) away e))
+
+  settled_by : (held : ℕ → List ℕ) → IsHeld held → ((c : ℕ) → held c ≢ [] → is_present s.hub c ≡ true) → Settled s.hub → s.net.rested ≡ true → RingsWait s → AreRead None s
+      → ((c : ℕ) → phase_at s.hub c ≡ Some Ending → held_octets (held_at s.hub c) ≢ []) → ((c : ℕ) (cause : ℕ × List ℕ) → due_at s.hub c ≡ Some cause → LeftAtEnd r c ns)
+      → Ties s → AreThere s → meant.Settled r ns s.net (record { pending = 0; gathered = []; backlog = held })
+  settled_by held is_held present settled rested waits asked ending due ties there = record {
+    rested = rested;
+    drained = refl;
+    flushed = refl;
+    waits = λ c holds. waits c (present c holds) (λ none. holds (is_held c (present c holds) ∙ none));
+    asked = λ c reads. asked c (none_reads c) (reading_is c ∙ reads);
+    ending = λ c ends none.
+        let by_hub : phase_at s.hub c ≡ Some Ending = agrees_hub_phase (world r ns) ns s k.agrees c Ending refl (ending_is (phase r ns c) ends) in
+        ending c by_hub (settled_held s.hub c settled ∙ sym (is_held c (ending_there c by_hub)) ∙ none);
+    closed = λ c code reason left_it. told_or_left c (code, reason) (due_at s.hub c) refl (due c) left_it;
+    only_those = λ c left_it. agrees_untold (world r ns) ns s k.agrees c left_it;
+    live = λ c. both_ways (s.net.live c) (is_present s.hub c) (there c) (ties c) ∙ there_is c;
+  }
+
+  -- of a connection whose Closed event is due, it left Open as the turn ended
+  pub kept_settled : Settled s.hub → s.net.rested ≡ true → RingsWait s → ((c : ℕ) → ring_at s.hub c ≢ [] → is_present s.hub c ≡ true) → AreRead None s
+      → ((c : ℕ) → phase_at s.hub c ≡ Some Ending → held_octets (held_at s.hub c) ≢ []) → ((c : ℕ) (cause : ℕ × List ℕ) → due_at s.hub c ≡ Some cause → LeftAtEnd r c ns)
+      → Ties s → AreThere s → meant.Settled r ns s.net (record { pending = 0; gathered = []; backlog = ring_at s.hub })
+  kept_settled settled rested waits present asked ending due ties there = settled_by (ring_at s.hub) (λ c here. refl) present settled rested waits asked ending due ties there
+
+  backlog_there : (c : ℕ) → backlog_at s.hub c ≢ [] → is_present s.hub c ≡ true
+  backlog_there c holds = by_cases (is_present s.hub c) (λ t. t) (λ away. absurd (holds (ap (λ (z : Bool). cond z (ring_at s.hub c) []) away)))
+
+  -- with what is held for those who are there
+  pub kept_settled_there : Settled s.hub → s.net.rested ≡ true → RingsWait s → AreRead None s
+      → ((c : ℕ) → phase_at s.hub c ≡ Some Ending → held_octets (held_at s.hub c) ≢ []) → ((c : ℕ) (cause : ℕ × List ℕ) → due_at s.hub c ≡ Some cause → LeftAtEnd r c ns)
+      → Ties s → AreThere s → meant.Settled r ns s.net (record { pending = 0; gathered = []; backlog = backlog_at s.hub })
+  kept_settled_there settled rested waits asked ending due ties there = settled_by (backlog_at s.hub) backlog_is backlog_there settled rested waits asked ending due ties there
+
+  none_due : (c : ℕ) (cause : ℕ × List ℕ) → due_at s.hub c ≡ None → due_at s.hub c ≡ Some cause → LeftAtEnd r c ns
+  none_due c cause none e = absurd (let z : None ≡ Some cause = sym none ∙ e in cc)
+
+  -- where none is due
+  pub kept_settled_whole : Settled s.hub → s.net.rested ≡ true → RingsWait s → IsTable (table_of s.hub) → AreRead None s
+      → ((c : ℕ) → phase_at s.hub c ≡ Some Ending → held_octets (held_at s.hub c) ≢ []) → ((c : ℕ) → due_at s.hub c ≡ None)
+      → Ties s → AreThere s → meant.Settled r ns s.net (record { pending = 0; gathered = []; backlog = ring_at s.hub })
+  kept_settled_whole settled rested waits table asked ending none ties there =
+      kept_settled settled rested waits (λ c holds. ring_there s.hub c table (none c) holds) asked ending (λ c cause. none_due c cause (none c)) ties there

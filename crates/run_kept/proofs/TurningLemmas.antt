@@ -1,0 +1,223 @@
+-- What a server keeps while it starts, while connections are turned away, and while time goes by and turns end.
+use Rattle.std.proofs.Common.{◌≡◌, ◌<◌, ◌^◌, ◌-◌, ℕ, List, [], ◌∷◌, ◌++◌, Option, Some, None, Bool, true, false, cond, ◌&&◌, length, refl, sym, ap, ◌∙◌, subst}
+use Rattle.std.specs.List.{list_all}
+use Rattle.ws_kinds.specs.declared.conn.Conn.{Conn}
+use Rattle.ws_kinds.specs.ConfigValue.{ConfigValue}
+use Rattle.ws_kinds.specs.NoteValue as note
+use Rattle.ws_kinds.specs.NoteValue.{NoteValue}
+use Rattle.link_trait.specs.NetState.{NetState}
+use Rattle.link_trait.specs.Net.{Nexts, Shuts, SameTraffic, is_rest}
+use Rattle.link_trait.specs.declared.net.NetEvent.{NetEvent}
+use Rattle.link_trait.specs.declared.net.NetEvent.TheVariants as event
+use Rattle.route_table.specs.Table.{RouteTable}
+use Rattle.run_meaning.specs.Counts.{gather, has_number, accepted_by, is_accepted}
+use Rattle.run_meaning.specs.Server as run
+use Rattle.run_meaning.specs.Lines.{world, phase}
+use Rattle.run_meaning.specs.Life.{heard}
+use Rattle.run_meaning.specs.Network.{Follows, Mark, marks_by, marks_of}
+use Rattle.run_meaning.specs.Network.Mark.{arrival, tick, turn}
+use Rattle.run_meaning.proofs.Parts.{list_all-append}
+use Rattle.run_meaning.proofs.Ordering.{ordered_none}
+use Rattle.hub_lines.specs.State.{HubState, Server, Entry, server, has_entry}
+use Rattle.hub_lines.specs.Told.{taken_of}
+use Rattle.hub_lines.specs.Calls.{nothing}
+use Rattle.hub_notes.specs.Noted.{AreNoted, is_outgoing}
+use Rattle.hub_notes.specs.Calls.{Appends}
+use Rattle.hub_notes.proofs.BoolLemmas.{clash}
+use Rattle.hub_table.specs.Table.{IsTable, table_of}
+use Rattle.hub_core.specs.Answers.{Arrives, Makes}
+use Rattle.hub_core.specs.declared.hub.Arrival.TheVariants.{Busy, Memory}
+use Rattle.hub_core.specs.Turns.{EndsTurn, finishes}
+use Rattle.hub_runs.specs.Agrees.{Agrees}
+use Rattle.hub_runs.specs.Tests.{is_quiet}
+use Rattle.hub_runs.proofs.AgreeLemmas.{agrees_net, agrees_aside, told_is}
+use Rattle.hub_runs.proofs.HubLemmas.{agrees_quiet, agrees_last}
+use Rattle.hub_runs.proofs.CountLemmas.{agrees_first}
+use Rattle.run_follows.specs.Steps.{FollowsBut}
+use Rattle.run_follows.specs.Unread.{is_unread}
+use Rattle.run_follows.proofs.Adding.{follows_none, none_but}
+use Rattle.run_follows.proofs.Calling.{call_marked}
+use Rattle.run_follows.proofs.Telling.{next_but, next_unmarked, shut_follows, aside_but}
+use Rattle.run_follows.proofs.Arriving.{busy_follows, no_room_follows}
+use Rattle.run_follows.proofs.Proceeding.{proceeds_follows}
+use Rattle.run_kept.specs.Kept.{IntakeView, HearsAt, RestsAt, Kept}
+use Rattle.run_kept.specs.Passing.{is_passing}
+use Rattle.run_kept.proofs.OthersLemmas.{entry_before}
+use Rattle.run_kept.proofs.PassingLemmas.{all_of, gathers_none, passing_accepts, kept_passing}
+
+-- ---- at first
+
+no_entries : (es : List Entry) (c : ℕ) → es ≡ [] → has_entry es c ≡ false
+no_entries es c e = ap (λ (z : List Entry). has_entry z c) e
+
+pub kept_first : {S : Type 0} (r : run.Server S) (f : ConfigValue) (t : RouteTable) (s : Server) (now : S) (is : ℕ → IntakeView) → s.hub.entries ≡ [] → s.hub.partings ≡ [] → s.net.tells ≡ true → s.told ≡ Some []
+    → s.net.passed ≡ [] → now ≡ r.start → s.hub.config ≡ f → Kept r f t [] s now is None
+kept_first r f t s now is entries partings tells told passed start config = record {
+  agrees = agrees_first r s tells told entries partings;
+  follows = follows_none s.net passed;
+  ordered = ordered_none r f;
+  state = start;
+  unlike = tt {0};
+  configured = config;
+  hears = λ c. refl;
+  rests = λ c free. tt {0};
+  routed = λ c there. clash (has_entry s.hub.entries c) (no_entries s.hub.entries c entries) there;
+}
+
+-- ---- what the watch told is known
+
+pub kept_told : {S : Type 0} (r : run.Server S) (f : ConfigValue) (t : RouteTable) (ns after : List NoteValue) (s : Server) (now : S) (is : ℕ → IntakeView) (reading : Option ℕ) → Kept r f t ns s now is reading
+    → s.told ≡ Some after → after ≡ ns
+kept_told r f t ns after s now is reading k told = let z : Some after ≡ Some ns = sym told ∙ k.agrees.told in cc
+
+-- ---- the net alone
+
+pub taken_same : (m n : NetState) (c : ℕ) → m.tells ≡ true → n.tells ≡ true → n.taken c ≡ m.taken c → taken_of n c ≡ taken_of m c
+taken_same m n c tm tn e =
+    ap (λ (z : Bool). cond z (Some (n.taken c)) None) tn ∙ ap Some e ∙ sym (ap (λ (z : Bool). cond z (Some (m.taken c)) None) tm)
+
+module _ {S : Type 0} (r : run.Server S) (f : ConfigValue) (t : RouteTable) (ns : List NoteValue) (a : Server) (now : S) (is : ℕ → IntakeView) (k : Kept r f t ns a now is None) where
+  -- the net is another one, through which nothing passed
+  pub agrees_now : (n : NetState) → n.tells ≡ true → SameTraffic a.net n → Agrees (world r ns) ns (server a.hub n a.told)
+  agrees_now n tells same = agrees_net (world r ns) ns a (server a.hub n a.told) k.agrees refl refl tells (λ c. taken_same a.net n c k.agrees.tells tells (same.taken c))
+
+  pub kept_net : (n : NetState) → n.tells ≡ true → SameTraffic a.net n → Follows ns n → Kept r f t ns (server a.hub n a.told) now is None
+  kept_net n tells same follows = record {
+    agrees = agrees_now n tells same;
+    follows = follows;
+    ordered = k.ordered;
+    state = k.state;
+    unlike = k.unlike;
+    configured = k.configured;
+    hears = λ c. subst (λ (z : List ℕ). HearsAt t f.max_message (phase r ns c) (heard c ns) z (is c).reader) (sym (same.given c)) (k.hears c);
+    rests = λ c free. subst (λ (z : List ℕ). RestsAt t (phase r ns c) z (is c).reader) (sym (same.given c)) (k.rests c free);
+    routed = k.routed;
+  }
+
+  -- a connection can be read, or takes octets
+  pub kept_readable : (conn : Conn) (n : NetState) → Nexts (event.Readable conn) a.net n → Kept r f t ns (server a.hub n a.told) now is None
+  kept_readable conn n next =
+      kept_net n (next.net.tells ∙ k.agrees.tells) (next.told k.agrees.tells).traffic (next_unmarked (event.Readable conn) ns a.net n refl k.agrees.tells next k.follows)
+
+  pub kept_writable : (conn : Conn) (n : NetState) → Nexts (event.Writable conn) a.net n → Kept r f t ns (server a.hub n a.told) now is None
+  kept_writable conn n next =
+      kept_net n (next.net.tells ∙ k.agrees.tells) (next.told k.agrees.tells).traffic (next_unmarked (event.Writable conn) ns a.net n refl k.agrees.tells next k.follows)
+
+  -- a link is shut
+  pub kept_shut : (c : ℕ) (n : NetState) → Shuts c a.net n → Kept r f t ns (server a.hub n a.told) now is None
+  kept_shut c n shut =
+      kept_net n (shut.net.tells ∙ k.agrees.tells) (shut.told k.agrees.tells).traffic (shut_follows c ns a.net n k.agrees.tells shut k.follows)
+
+  -- ---- one note by which nothing is heard and nobody comes
+
+  unaccepted : (ms : List NoteValue) → list_all is_passing ms ≡ true → (c : ℕ) → is_accepted c ms ≡ false
+  unaccepted ms e c = ap (has_number c) (gathers_none is_passing accepted_by passing_accepts ms e)
+
+  -- after a call of the net through which nothing passed, a call of the hub
+  kept_one : (n : NoteValue) (net : NetState) (b : Server) (after : List NoteValue) → net.tells ≡ true → SameTraffic a.net net → Makes (n ∷ []) (server a.hub net a.told) b → Appends nothing (server a.hub net a.told) b → b.told ≡ Some after
+      → is_passing n ≡ true → is_quiet n ≡ true → Follows (ns ++ n ∷ []) b.net → ((c : ℕ) → has_entry b.hub.entries c ≡ true → has_entry a.hub.entries c ≡ true) → Kept r f t (ns ++ n ∷ []) b now is None
+  kept_one n net b after tells same makes app told passes quiet follows entries =
+      kept_passing r f t ns (n ∷ []) a b now is k (ap (λ (z : Bool). z && true) passes)
+      (agrees_quiet r (world r ns) ns after (n ∷ []) (server a.hub net a.told) b (agrees_now net tells same) makes.advances app told (ap (λ (z : Bool). z && true) quiet))
+      follows app.lines.config (λ c. (makes.advances.net.told tells).given c ∙ same.given c) entries
+
+  -- time went by
+  pub kept_tick : (net : NetState) (b : Server) (after : List NoteValue) → length a.net.passed < 2 ^ 64 - 1 → Nexts event.Tick a.net net → Makes (note.tick ∷ []) (server a.hub net a.told) b → Appends nothing (server a.hub net a.told) b
+      → b.told ≡ Some after → IsTable (table_of a.hub) → IsTable (table_of b.hub) → Kept r f t (ns ++ note.tick ∷ []) b now is None
+  kept_tick net b after few next makes app told was table =
+      let tells : net.tells ≡ true = next.net.tells ∙ k.agrees.tells in
+      kept_one note.tick net b after tells (next.told k.agrees.tells).traffic makes app told refl refl
+      (none_but (ns ++ note.tick ∷ []) b.net
+      (call_marked ns (note.tick ∷ []) (tick ∷ []) (tick ∷ []) [] net b.net tells refl refl (λ c. refl) (λ c. refl) (λ c. refl) makes.advances.net makes.fails
+      (next_but event.Tick ns a.net net k.agrees.tells few next k.follows)))
+      (λ c there. entry_before c (note.tick ∷ []) (server a.hub net a.told) b makes.advances (unaccepted (note.tick ∷ []) refl c) was table there)
+
+  -- a connection came, and there are as many as there may be, or there was too little memory for it in the hub
+  pub kept_busy : (conn : Conn) (net : NetState) (b : Server) (after : List NoteValue) → length a.net.passed < 2 ^ 64 - 1 → Nexts (event.Accept conn) a.net net → Arrives Busy conn.0 (server a.hub net a.told) b
+      → Appends nothing (server a.hub net a.told) b → b.told ≡ Some after → Kept r f t (ns ++ note.busy conn.0 ∷ []) b now is None
+  kept_busy conn net b after few next busy app told =
+      let tells : net.tells ≡ true = next.net.tells ∙ k.agrees.tells in
+      let makes : Makes (note.busy conn.0 ∷ []) (server a.hub net a.told) b = busy.2 in
+      kept_one (note.busy conn.0) net b after tells (next.told k.agrees.tells).traffic makes app told refl refl
+      (busy_follows conn.0 ns net b.net tells makes.advances.net makes.fails (next_but (event.Accept conn) ns a.net net k.agrees.tells few next k.follows))
+      (λ c there. ap (λ (z : HubState). has_entry z.entries c) (sym busy.1) ∙ there)
+
+  pub kept_memory : (conn : Conn) (net : NetState) (b : Server) (after : List NoteValue) → length a.net.passed < 2 ^ 64 - 1 → Nexts (event.Accept conn) a.net net → Arrives Memory conn.0 (server a.hub net a.told) b
+      → Appends nothing (server a.hub net a.told) b → b.told ≡ Some after → Kept r f t (ns ++ note.no_room conn.0 ∷ []) b now is None
+  kept_memory conn net b after few next full app told =
+      let tells : net.tells ≡ true = next.net.tells ∙ k.agrees.tells in
+      let makes : Makes (note.no_room conn.0 ∷ []) (server a.hub net a.told) b = full.2 in
+      kept_one (note.no_room conn.0) net b after tells (next.told k.agrees.tells).traffic makes app told refl refl
+      (no_room_follows conn.0 ns net b.net tells makes.advances.net makes.fails (next_but (event.Accept conn) ns a.net net k.agrees.tells few next k.follows))
+      (λ c there. ap (λ (z : HubState). has_entry z.entries c) (sym full.1) ∙ there)
+
+  -- or in the loop, which notes that itself
+  pub kept_no_room : (conn : Conn) (net : NetState) (b : Server) (after : List NoteValue) → length a.net.passed < 2 ^ 64 - 1 → Nexts (event.Accept conn) a.net net → b.hub ≡ a.hub → b.net ≡ net
+      → AreNoted a.told (note.no_room conn.0 ∷ []) b.told → b.told ≡ Some after → Kept r f t (ns ++ note.no_room conn.0 ∷ []) b now is None
+  kept_no_room conn net b after few next hub same noted told =
+      let tells : net.tells ≡ true = next.net.tells ∙ k.agrees.tells in
+      let traffic = (next.told k.agrees.tells).traffic in
+      let n = note.no_room conn.0 in
+      kept_passing r f t ns (n ∷ []) a b now is k refl
+      (agrees_aside r (world r ns) ns n (server a.hub net a.told) b (agrees_now net tells traffic) refl hub same (told_is ns (n ∷ []) after a.told b.told noted k.agrees.told told))
+      (subst (λ (z : NetState). Follows (ns ++ n ∷ []) z) (sym same)
+      (none_but (ns ++ n ∷ []) net (aside_but ns n (arrival conn.0 ∷ []) [] net refl refl (next_but (event.Accept conn) ns a.net net k.agrees.tells few next k.follows))))
+      (ap (λ (z : HubState). z.config) hub) (λ c. ap (λ (z : NetState). z.given c) same ∙ traffic.given c)
+      (λ c there. ap (λ (z : HubState). has_entry z.entries c) (sym hub) ∙ there)
+
+  -- ---- a turn ends
+
+  pub kept_turn : (net : NetState) (b : Server) (after : List NoteValue) (ends : EndsTurn (server a.hub net a.told) b) → net.tells ≡ true → SameTraffic a.net net → FollowsBut (turn ∷ []) ns net
+      → Appends nothing (server a.hub net a.told) b → b.told ≡ Some after → IsTable (table_of a.hub) → IsTable (table_of b.hub)
+      → (after ≡ ns ++ (ends.proceeds.sending ++ (finishes ends.finished ++ note.turn ∷ []))) × Kept r f t after b now is None
+  kept_turn net b after ends tells same follows app told was table =
+      let last = finishes ends.finished ++ note.turn ∷ [] in
+      let made = ends.proceeds.sending ++ last in
+      let passes : list_all is_passing made ≡ true =
+      list_all-append is_passing ends.proceeds.sending last ∙ ap (λ (z : Bool). z && list_all is_passing last) (all_of is_outgoing is_passing outgoing_passes ends.proceeds.sending ends.proceeds.outgoing) ∙ last_passes ends.finished in
+      let kept : Kept r f t (ns ++ made) b now is None =
+      kept_passing r f t ns made a b now is k passes
+      (agrees_last r (world r ns) ns after last (server a.hub net a.told) b ends.proceeds (agrees_now net tells same) app told (last_quiet ends.finished))
+      (none_but (ns ++ made) b.net (proceeds_follows ns [] last (turn ∷ []) (turn ∷ []) [] (server a.hub net a.told) b tells (last_unread ends.finished) (last_marks ends.finished) refl ends.proceeds follows))
+      app.lines.config (λ c. (ends.proceeds.advances.net.told tells).given c ∙ same.given c)
+      (λ c there. entry_before c made (server a.hub net a.told) b ends.proceeds.advances (unaccepted made passes c) was table there) in
+      let is_after : after ≡ ns ++ made = kept_told r f t (ns ++ made) after b now is None kept told in
+      (is_after, subst (λ (z : List NoteValue). Kept r f t z b now is None) (sym is_after) kept)
+    where
+      outgoing_passes : (n : NoteValue) → is_outgoing n ≡ true → is_passing n ≡ true
+      outgoing_passes (note.took c offered took) e = refl
+      outgoing_passes (note.dropped c index held) e = refl
+      outgoing_passes (note.gone c left) e = refl
+      outgoing_passes _ e = clash false refl e
+
+      last_passes : (cs : List ℕ) → list_all is_passing (finishes cs ++ note.turn ∷ []) ≡ true
+      last_passes [] = refl
+      last_passes (c ∷ cs) = last_passes cs
+
+      last_quiet : (cs : List ℕ) → list_all is_quiet (finishes cs ++ note.turn ∷ []) ≡ true
+      last_quiet [] = refl
+      last_quiet (c ∷ cs) = last_quiet cs
+
+      last_unread : (cs : List ℕ) → list_all is_unread (finishes cs ++ note.turn ∷ []) ≡ true
+      last_unread [] = refl
+      last_unread (c ∷ cs) = last_unread cs
+
+      last_marks : (cs : List ℕ) → gather marks_by (finishes cs ++ note.turn ∷ []) ≡ turn ∷ []
+      last_marks [] = refl
+      last_marks (c ∷ cs) = last_marks cs
+
+  pub kept_turned : (answer : NetEvent) (net : NetState) (b : Server) (after : List NoteValue) (ends : EndsTurn (server a.hub net a.told) b) → is_rest answer ≡ true → length a.net.passed < 2 ^ 64 - 1 → Nexts answer a.net net
+      → Appends nothing (server a.hub net a.told) b → b.told ≡ Some after → IsTable (table_of a.hub) → IsTable (table_of b.hub)
+      → (after ≡ ns ++ (ends.proceeds.sending ++ (finishes ends.finished ++ note.turn ∷ []))) × Kept r f t after b now is None
+  kept_turned answer net b after ends rest few next app told was table =
+      kept_turn net b after ends (next.net.tells ∙ k.agrees.tells) (next.told k.agrees.tells).traffic
+      (subst (λ (z : List Mark). FollowsBut z ns net) (rest_marks answer rest) (next_but answer ns a.net net k.agrees.tells few next k.follows)) app told was table
+    where
+      rest_marks : (answer : NetEvent) → is_rest answer ≡ true → marks_of answer ≡ turn ∷ []
+      rest_marks event.Turn e = refl
+      rest_marks event.Stop e = refl
+      rest_marks event.Failed e = refl
+      rest_marks event.Tick e = clash false refl e
+      rest_marks (event.Accept conn) e = clash false refl e
+      rest_marks (event.Readable conn) e = clash false refl e
+      rest_marks (event.Writable conn) e = clash false refl e
