@@ -1,0 +1,11 @@
+pub mod IntakeLemmas
+pub mod ProgressLemmas
+pub mod StepLemmas
+pub mod EventLemmas
+pub mod FrameLemmas
+pub mod HeadLemmas
+pub mod RunningLemmas
+pub mod TidyLemmas
+pub mod CloseLemmas
+pub mod ArriveLemmas
+pub mod TurnLemmas

@@ -1,0 +1,332 @@
+-- What the net answers, and how a turn begins and ends.
+use Rattle.std.proofs.Common.{◌≡◌, ◌≢◌, ◌≤◌, ◌<◌, ◌+◌, ◌-◌, ◌^◌, ◌⊎◌, inl, inr, ⊎_elim, ℕ, suc, List, [], ◌∷◌, ◌++◌, length, Option, Bool, true, false, cond, nat_lt, ◌&&◌, not, is_some, Some, None, refl, sym, ap, ◌∙◌, subst, arith, append-nil, append_assoc, length-append}
+use Rattle.std.proofs.lemmas.Bool.{cases_eq}
+use Rattle.std.proofs.lemmas.Bool.Decides.{nat_tests}
+use Rattle.std.specs.List.{list_any, list_all}
+use Rattle.ws_kinds.specs.NoteValue as note
+use Rattle.ws_kinds.specs.NoteValue.{NoteValue}
+use Rattle.link_trait.specs.Link.{Rose}
+use Rattle.link_trait.specs.NetState.{NetState}
+use Rattle.link_trait.specs.Net.{Accepts, Readies, Frees, SameLinks, Nexts, passing, passed_after, is_rest}
+use Rattle.run_meaning.specs.Counts.{number_of}
+use Rattle.link_trait.specs.declared.net.NetEvent.{NetEvent}
+use Rattle.link_trait.specs.declared.net.NetEvent.TheVariants as event
+use Rattle.run_meaning.proofs.Parts.{list_all-append}
+use Rattle.run_meaning.specs.Settled.{is_reading}
+use Rattle.hub_lines.specs.State.{HubState, Entry, Server, server, is_present, is_gone, has_entry, entry_of, phase_at}
+use Rattle.hub_lines.specs.Calls.{Ties, Settled, nothing}
+use Rattle.hub_notes.specs.Calls.{Appends}
+use Rattle.hub_notes.proofs.BoolLemmas.{by_cases, clash, and_left, and_right}
+use Rattle.hub_table.specs.Table.{IsTable, table_of}
+use Rattle.hub_core.specs.Turns.{EndsTurn, finishes}
+use Rattle.loop_runner.specs.declared.turn.Turned.{Turned}
+use Rattle.loop_runner.specs.declared.turn.Turned.TheVariants as turned
+use Rattle.loop_runner.specs.declared.intakes.Intake.{Intake}
+use Rattle.loop_runner.specs.declared.intakes.Intakes.{Intakes}
+use Rattle.loop_runner.specs.Intakes.{intake_at, is_admitted, max_of}
+use Rattle.loop_runner.specs.Ready.{Ready}
+use Rattle.loop_runner.specs.Steps.{Every, But, Rises, Steps, Running, Onward}
+use Rattle.loop_runner.specs.Turns.{is_between, ending, GrowsBetween, GrowsTurn, GrowsTurns, PassesBetween, PassesTurn, PassesTurns, FailsAs}
+use Rattle.loop_runner.proofs.ProgressLemmas.{begins}
+use Rattle.loop_runner.proofs.StepLemmas.{accepts_none, outgoing_begins, begin_none, any_then, read_present, rises_by, rises_then, steps_of}
+
+-- ---- an event of the net
+
+pub running_come : (conn : ℕ) (intakes : Intakes) (h : HubState) (a b : NetState) (t : Option (List NoteValue)) → Running Every intakes (server h a t) → Accepts conn a b → Running Every intakes (server h b t)
+running_come conn intakes h a b t x n = record {
+  max = x.max;
+  kept = x.kept;
+  ties = λ c there. n.live_elsewhere c (other c there) ∙ x.ties c there;
+  named = let p = x.named in let q = n.rises in subst (λ (z : ℕ). h.named ≤ z) (sym n.named) (omega arith);
+  short = x.short;
+  readers = x.readers;
+  asked = λ c p r. n.due_elsewhere c (other c (read_present h c r)) ∙ x.asked c p r;
+  taken = x.taken;
+}
+  where
+    other : (c : ℕ) → is_present h c ≡ true → c ≢ conn
+    other c there same = clash (a.live conn) n.was (x.ties conn (ap (is_present h) (sym same) ∙ there))
+
+pub running_ready : (conn : ℕ) (intakes : Intakes) (h : HubState) (a b : NetState) (t : Option (List NoteValue)) → Running Every intakes (server h a t) → Readies conn a b → Running (But conn) intakes (server h b t)
+running_ready conn intakes h a b t x n = record {
+  max = x.max;
+  kept = x.kept;
+  ties = λ c there. n.live c ∙ x.ties c there;
+  named = subst (λ (z : ℕ). h.named ≤ z) (sym n.named) x.named;
+  short = x.short;
+  readers = x.readers;
+  asked = λ c ne r. n.due_elsewhere c ne ∙ x.asked c (tt {0}) r;
+  taken = λ c _. x.taken c (tt {0});
+}
+
+pub running_freed : (conn : ℕ) (intakes : Intakes) (h : HubState) (a b : NetState) (t : Option (List NoteValue)) → Running Every intakes (server h a t) → Frees conn a b → Running Every intakes (server h b t)
+running_freed conn intakes h a b t x n = record {
+  max = x.max;
+  kept = x.kept;
+  ties = λ c there. n.live c ∙ x.ties c there;
+  named = subst (λ (z : ℕ). h.named ≤ z) (sym n.named) x.named;
+  short = x.short;
+  readers = x.readers;
+  asked = λ c p r. n.due c ∙ x.asked c p r;
+  taken = x.taken;
+}
+
+pub running_rested : (intakes : Intakes) (h : HubState) (a b : NetState) (t : Option (List NoteValue)) → Running Every intakes (server h a t) → SameLinks a b → Running Every intakes (server h b t)
+running_rested intakes h a b t x n = record {
+  max = x.max;
+  kept = x.kept;
+  ties = λ c there. n.live c ∙ x.ties c there;
+  named = subst (λ (z : ℕ). h.named ≤ z) (sym n.named) x.named;
+  short = x.short;
+  readers = x.readers;
+  asked = λ c p r. n.due c ∙ x.asked c p r;
+  taken = x.taken;
+}
+
+-- ---- how a turn begins and ends
+
+pub running_begun : (intakes : Intakes) (s : Server) → Ready intakes s → IsTable (table_of s.hub) → Running Every intakes s
+running_begun intakes s x table = record {
+  max = x.max;
+  kept = λ c k. sym (x.entries c) ∙ table.kept c ∙ k;
+  ties = x.ties;
+  named = x.named;
+  short = x.short;
+  readers = x.readers;
+  asked = λ c _. x.asked c;
+  taken = λ c _ intake at. x.taken c intake at;
+}
+
+pub ready_of : (intakes : Intakes) (s : Server) → Running Every intakes s → ((c : ℕ) → has_entry s.hub.entries c ≡ is_admitted intakes c) → Settled s.hub → Ready intakes s
+ready_of intakes s x exact settled = record {
+  max = x.max;
+  entries = exact;
+  ties = x.ties;
+  named = x.named;
+  settled = settled;
+  short = x.short;
+  asked = λ c. x.asked c (tt {0});
+  readers = x.readers;
+  taken = λ c intake at. x.taken c (tt {0}) intake at;
+}
+
+finishes_begin : (conns : List ℕ) → list_any begins (finishes conns) ≡ false
+finishes_begin [] = refl
+finishes_begin (c ∷ conns) = finishes_begin conns
+
+pub steps_ended : (a b : Server) → EndsTurn a b → Appends nothing a b → Ties b → b.hub.named ≡ a.hub.named → Steps Every a b
+steps_ended a b x app ties named =
+    let last = finishes x.finished ++ note.turn ∷ [] in
+    let ns = x.proceeds.sending ++ last in
+    let none : list_any begins ns ≡ false = any_then begins x.proceeds.sending last (outgoing_begins x.proceeds.sending x.proceeds.outgoing) (any_then begins (finishes x.finished) (note.turn ∷ []) (finishes_begin x.finished) refl) in
+    steps_of Every ns nothing a b x.proceeds.advances (rises_by _ a.net.faults b.net.faults x.proceeds.fails.faults) app ties named (λ c _. begin_none c ns none) (accepts_none ns none)
+
+-- ---- answers
+
+between_both : (xs ys : List NetEvent) → list_all is_between xs ≡ true → list_all is_between ys ≡ true → list_all is_between (xs ++ ys) ≡ true
+between_both xs ys e h = list_all-append is_between xs ys ∙ ap (λ (z : Bool). z && list_all is_between ys) e ∙ h
+
+pub grows_same : (xs : List NetEvent) → GrowsBetween xs xs
+grows_same xs = inl ([], refl, sym (append-nil xs))
+
+pub grows_then : (a b d : List NetEvent) → GrowsBetween a b → GrowsBetween b d → GrowsBetween a d
+grows_then a b d (inl (xs, p, e)) (inl (ys, q, h)) = inl (xs ++ ys, between_both xs ys p q, h ∙ ap (λ (z : List NetEvent). z ++ ys) e ∙ append_assoc a xs ys)
+grows_then a b d (inl x) (inr full) = inr full
+grows_then a b d (inr full) (inl (ys, q, h)) = inr (let l = ap length h ∙ length-append b ys in omega arith)
+grows_then a b d (inr full) (inr more) = inr more
+
+pub grows_turn : (end : Turned) (a b d : List NetEvent) → GrowsBetween a b → GrowsTurn end b d → GrowsTurn end a d
+grows_turn end a b d (inl (xs, p, e)) (inl (ys, q, h)) =
+    inl (xs ++ ys, between_both xs ys p q, h ∙ ap (λ (z : List NetEvent). z ++ (ys ++ ending end ∷ [])) e ∙ append_assoc a xs (ys ++ ending end ∷ []) ∙ ap (λ (z : List NetEvent). a ++ z) (sym (append_assoc xs ys (ending end ∷ []))))
+grows_turn end a b d (inl x) (inr full) = inr full
+grows_turn end a b d (inr full) (inl (ys, q, h)) = inr (let l = ap length h ∙ length-append b (ys ++ ending end ∷ []) in omega arith)
+grows_turn end a b d (inr full) (inr more) = inr more
+
+passed_either : (passed : List NetEvent) (answer : NetEvent) → (passed_after passed answer ≡ passed ++ passing answer) ⊎ (2 ^ 64 - 1 ≤ length (passed_after passed answer))
+passed_either passed answer = by_cases (nat_lt (length passed) (2 ^ 64 - 1))
+    (λ e. inl (ap (λ (z : Bool). cond z (passed ++ passing answer) passed) e))
+    (λ e. inr (subst (λ (z : List NetEvent). 2 ^ 64 - 1 ≤ length z) (sym (ap (λ (z : Bool). cond z (passed ++ passing answer) passed) e)) (not_less (length passed) (2 ^ 64 - 1) e)))
+  where
+    not_less : (n m : ℕ) → nat_lt n m ≡ false → m ≤ n
+    not_less n m e = grind (arith, nat_tests)
+
+grows_by : (passed : List NetEvent) (answer : NetEvent) (xs : List NetEvent) → passing answer ≡ xs → list_all is_between xs ≡ true → GrowsBetween passed (passed_after passed answer)
+grows_by passed answer xs is p = ⊎_elim
+    (λ (e : passed_after passed answer ≡ passed ++ passing answer). inl (xs, p, e ∙ ap (λ (z : List NetEvent). passed ++ z) is))
+    (λ (full : 2 ^ 64 - 1 ≤ length (passed_after passed answer)). inr full)
+    (passed_either passed answer)
+
+pub rises_next : (a b : ℕ) → b ≡ a → Rises a b
+rises_next a b e = inl (omega arith)
+
+-- an answer that ends no turn
+pub passes_next : (answer : NetEvent) (xs : List NetEvent) (a b : NetState) → Nexts answer a b → b.faults ≡ a.faults → passing answer ≡ xs → list_all is_between xs ≡ true → PassesBetween a b
+passes_next answer xs a b n faults is p = record {
+  tells = n.net.tells;
+  told = λ t. subst (GrowsBetween a.passed) (sym (n.told t).passed) (grows_by a.passed answer xs is p);
+  faults = rises_next a.faults b.faults faults;
+}
+
+-- and an answer that ends it
+pub passes_end : (end : Turned) (a b : NetState) → Nexts (ending end) a b → passing (ending end) ≡ ending end ∷ [] → Rises a.faults b.faults → PassesTurn end a b
+passes_end end a b n is faults = record {
+  tells = n.net.tells;
+  told = λ t. subst (GrowsTurn end a.passed) (sym (n.told t).passed)
+      (⊎_elim
+      (λ (e : passed_after a.passed (ending end) ≡ a.passed ++ passing (ending end)). inl ([], refl, e ∙ ap (λ (z : List NetEvent). a.passed ++ z) is))
+      (λ (full : 2 ^ 64 - 1 ≤ length (passed_after a.passed (ending end))). inr full)
+      (passed_either a.passed (ending end)));
+  faults = faults;
+}
+
+pub passes_then : (a b d : NetState) → PassesBetween a b → PassesBetween b d → PassesBetween a d
+passes_then a b d x y = record {
+  tells = y.tells ∙ x.tells;
+  told = λ t. grows_then a.passed b.passed d.passed (x.told t) (y.told (x.tells ∙ t));
+  faults = rises_then a.faults b.faults d.faults x.faults y.faults;
+}
+
+pub passes_turn : (end : Turned) (a b d : NetState) → PassesBetween a b → PassesTurn end b d → PassesTurn end a d
+passes_turn end a b d x y = record {
+  tells = y.tells ∙ x.tells;
+  told = λ t. grows_turn end a.passed b.passed d.passed (x.told t) (y.told (x.tells ∙ t));
+  faults = rises_then a.faults b.faults d.faults x.faults y.faults;
+}
+
+pub passes_onward : (a b : Server) → Onward a b → PassesBetween a.net b.net
+passes_onward a b x = record {
+  tells = x.tells;
+  told = λ t. subst (GrowsBetween a.net.passed) (sym (x.passed t)) (grows_same a.net.passed);
+  faults = x.faults;
+}
+
+pub passes_steps : (P : ℕ → Type 0) (a b : Server) → Steps P a b → PassesBetween a.net b.net
+passes_steps P a b x = record {
+  tells = x.tells;
+  told = λ t. subst (GrowsBetween a.net.passed) (sym (x.passed t)) (grows_same a.net.passed);
+  faults = x.faults;
+}
+
+-- what follows the end of a turn
+pub passes_ended : (end : Turned) (a b : NetState) (s : Server) (P : ℕ → Type 0) (r : Server) → PassesTurn end a r.net → Steps P r s → PassesTurn end a s.net
+passes_ended end a b s P r x y = record {
+  tells = y.tells ∙ x.tells;
+  told = λ t. subst (GrowsTurn end a.passed) (sym (y.passed (x.tells ∙ t))) (x.told t);
+  faults = rises_then a.faults r.net.faults s.net.faults x.faults y.faults;
+}
+
+-- ---- faults
+
+above : (a d : ℕ) → a ≤ 2 ^ 64 - 1 → 2 ^ 64 - 1 ≤ d → Rose a d
+above a d few full = ⊎_elim (λ (e : d ≡ 2 ^ 64 - 1). inr e) (λ (ne : d ≡ 2 ^ 64 - 1 → ⊥). inl (omega (arith, ne))) (cases_eq d (2 ^ 64 - 1))
+
+pub rose_after : (a b d : ℕ) → Rose a b → Rises b d → a ≤ 2 ^ 64 - 1 → Rose a d
+rose_after a b d (inl more) (inl most) few = inl (omega arith)
+rose_after a b d (inr is) (inl most) few = above a d few (omega arith)
+rose_after a b d r (inr full) few = above a d few full
+
+rose_before : (a b d : ℕ) → Rises a b → Rises b d → (b ≤ 2 ^ 64 - 1 → Rose b d) → a ≤ 2 ^ 64 - 1 → Rose a d
+rose_before a b d x (inr full) h few = above a d few full
+rose_before a b d (inr full) (inl most) h few = above a d few (omega arith)
+rose_before a b d (inl least) (inl most) h few = by_cases (nat_lt (2 ^ 64 - 1) b)
+    (λ over. above a d few (at_least (2 ^ 64 - 1) b d over most))
+    (λ within. ⊎_elim (λ (more : b < d). inl (omega arith)) (λ (is : d ≡ 2 ^ 64 - 1). inr is) (h (not_more (2 ^ 64 - 1) b within)))
+  where
+    at_least : (m b d : ℕ) → nat_lt m b ≡ true → b ≤ d → m ≤ d
+    at_least m b d e l = grind (arith, nat_tests)
+
+    not_more : (m b : ℕ) → nat_lt m b ≡ false → b ≤ m
+    not_more m b e = grind (arith, nat_tests)
+
+pub fails_then : (end : Turned) (a b d : ℕ) → Rises a b → Rises b d → FailsAs end b d → FailsAs end a d
+fails_then turned.Turn a b d x y f = tt {0}
+fails_then turned.Stop a b d x y f = tt {0}
+fails_then turned.Failed a b d x y f = rose_before a b d x y f
+
+rises_rose : (a b : ℕ) → Rose a b → Rises a b
+rises_rose a b r = ⊎_elim (λ (more : a < b). inl (omega arith)) (λ (most : b ≡ 2 ^ 64 - 1). inr (omega arith)) r
+
+pub rose_rises : (a b : ℕ) → Rose a b → Rises a b
+rose_rises a b r = rises_rose a b r
+
+-- ---- turn after turn
+
+count-append : (xs ys : List NetEvent) → number_of is_rest (xs ++ ys) ≡ number_of is_rest xs + number_of is_rest ys
+count-append [] ys = omega arith
+count-append (x ∷ xs) ys = by_test (is_rest x) (number_of is_rest (xs ++ ys)) (number_of is_rest xs) (number_of is_rest ys) (count-append xs ys)
+  where
+    by_test : (b : Bool) (all some more : ℕ) → all ≡ some + more → cond b (suc all) all ≡ cond b (suc some) some + more
+    by_test true all some more h = omega arith
+    by_test false all some more h = h
+
+one_between : (x : NetEvent) → is_between x ≡ true → is_rest x ≡ false
+one_between (event.Accept c) e = refl
+one_between (event.Readable c) e = refl
+one_between (event.Writable c) e = refl
+one_between event.Tick e = refl
+one_between event.Turn e = clash false refl e
+one_between event.Stop e = clash false refl e
+one_between event.Failed e = clash false refl e
+
+count_between : (xs : List NetEvent) → list_all is_between xs ≡ true → number_of is_rest xs ≡ 0
+count_between [] e = refl
+count_between (x ∷ xs) e =
+    ap (λ (z : Bool). cond z (suc (number_of is_rest xs)) (number_of is_rest xs)) (one_between x (and_left (is_between x) (list_all is_between xs) e))
+    ∙ count_between xs (and_right (is_between x) (list_all is_between xs) e)
+
+count_ending : (end : Turned) → number_of is_rest (ending end ∷ []) ≡ 1
+count_ending turned.Turn = refl
+count_ending turned.Stop = refl
+count_ending turned.Failed = refl
+
+grows_turns : (count : ℕ) (end : Turned) (a b d : List NetEvent) → GrowsTurns count a b → GrowsTurn end b d → GrowsTurns (count + 1) a d
+grows_turns count end a b d (inl (xs, p, e)) (inl (ys, q, h)) =
+    let more = ys ++ ending end ∷ [] in
+    let one = count-append ys (ending end ∷ []) in
+    let none = count_between ys q in
+    let last = count_ending end in
+    let both = count-append xs more in
+    inl (xs ++ more, omega arith, h ∙ ap (λ (z : List NetEvent). z ++ more) e ∙ append_assoc a xs more)
+grows_turns count end a b d (inl x) (inr full) = inr full
+grows_turns count end a b d (inr full) (inl (ys, q, h)) = inr (let l = ap length h ∙ length-append b (ys ++ ending end ∷ []) in omega arith)
+grows_turns count end a b d (inr full) (inr more) = inr more
+
+pub turns_none : (a : NetState) → PassesTurns 0 a a
+turns_none a = record { tells = refl; told = λ _. inl ([], refl, sym (append-nil a.passed)); faults = inl (omega arith) }
+
+pub turns_more : (count : ℕ) (end : Turned) (a b d : NetState) → PassesTurns count a b → PassesTurn end b d → PassesTurns (count + 1) a d
+turns_more count end a b d x y = record {
+  tells = y.tells ∙ x.tells;
+  told = λ t. grows_turns count end a.passed b.passed d.passed (x.told t) (y.told (x.tells ∙ t));
+  faults = rises_then a.faults b.faults d.faults x.faults y.faults;
+}
+
+pub turns_fail : (count : ℕ) (a b d : NetState) → PassesTurns count a b → PassesTurn turned.Failed b d → FailsAs turned.Failed b.faults d.faults → a.faults ≤ 2 ^ 64 - 1 → Rose a.faults d.faults
+turns_fail count a b d x y f = fails_then turned.Failed a.faults b.faults d.faults x.faults y.faults f
+
+-- ---- before the first turn
+
+new_away : (entries : List Entry) (c : ℕ) → entries ≡ [] → (has_entry entries c ≡ false) × (not (is_gone (entry_of entries c).phase) ≡ false)
+new_away [] c e = (refl, refl)
+new_away (first ∷ rest) c e = cc
+
+pub new_unread : (h : HubState) (c : ℕ) → h.entries ≡ [] → is_reading (phase_at h c) ≡ false
+new_unread h c e = ap (λ (z : List Entry). is_reading (cond (has_entry z c) (Some (entry_of z c).phase) None)) e
+
+-- a hub and intakes without connections are ready
+pub ready_new : (intakes : Intakes) (h : HubState) (net : NetState) (t : Option (List NoteValue)) → h.config.max_message ≡ max_of intakes → h.entries ≡ [] → h.named ≡ 0 → Settled h → ((c : ℕ) → intake_at intakes c ≡ None)
+    → Ready intakes (server h net t)
+ready_new intakes h net t max entries named settled none = record {
+  max = max;
+  entries = λ c. (new_away h.entries c entries).0 ∙ sym (ap is_some (none c));
+  ties = λ c there. clash (is_present h c) (new_away h.entries c entries).1 there;
+  named = omega arith;
+  settled = settled;
+  short = λ c there. clash (is_present h c) (new_away h.entries c entries).1 there;
+  asked = λ c r. clash (is_reading (phase_at h c)) (new_unread h c entries) r;
+  readers = λ c intake at. absurd (no_intake (intake_at intakes c) intake (none c) at);
+  taken = λ c intake at. absurd (no_intake (intake_at intakes c) intake (none c) at);
+}
+  where
+    no_intake : (x : Option Intake) (y : Intake) → x ≡ None → x ≡ Some y → ⊥
+    no_intake x y e h = clash (is_some x) (ap is_some e) (ap is_some h)

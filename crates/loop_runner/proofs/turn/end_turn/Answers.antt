@@ -1,0 +1,19 @@
+use Rattle.loop_runner.specs.Steps.{Every}
+use Rattle.loop_runner.proofs.RunningLemmas.{running_steps}
+use Rattle.loop_runner.proofs.CloseLemmas.{running_tidied}
+use Rattle.loop_runner.proofs.TurnLemmas.{steps_ended, ready_of}
+use Rattle.loop_runner.proofs.turn.end_turn.Goals as goal
+
+pub tidy-requires : goal.tidy-requires
+tidy-requires g c conn kept = c.requires.running.kept conn ((steps_ended _ _ c.end_turn.ensures.ends c.end_turn.ensures.appends c.end_turn.ensures.ties c.end_turn.ensures.named).kept conn kept)
+
+pub returns-clause-steps : goal.returns-clause-steps
+returns-clause-steps g c = steps_ended _ _ c.end_turn.ensures.ends c.end_turn.ensures.appends c.end_turn.ensures.ties c.end_turn.ensures.named
+
+pub returns-clause-ready : goal.returns-clause-ready
+returns-clause-ready g c =
+    ready_of c.tidy.new.intakes _
+    (running_tidied Every c.args.intakes.now c.tidy.new.intakes _
+    (running_steps Every c.args.intakes.now _ _ c.requires.running (steps_ended _ _ c.end_turn.ensures.ends c.end_turn.ensures.appends c.end_turn.ensures.ties c.end_turn.ensures.named))
+    c.tidy.ensures.table c.tidy.ensures.entries c.tidy.ensures.max c.tidy.ensures.kept)
+    c.tidy.ensures.entries c.end_turn.ensures.settled

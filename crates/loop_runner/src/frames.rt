@@ -1,0 +1,174 @@
+//! The frames of a connection in phase Open or Leaving.
+
+ghost use Rattle.std.specs.Prelude.{◌≡◌, ◌<◌, [], true, false, length, Some};
+ghost use Rattle.ws_kinds.specs.NoteValue as note;
+ghost use Rattle.ws_kinds.specs.EventValue as event;
+ghost use Rattle.run_meaning.specs.Settled.{is_reading};
+ghost use Rattle.frame_reader.specs.Reader.{ahead, max_of};
+ghost use Rattle.frame_reader.specs.Step.{events_of, is_last, IsMore};
+ghost use Rattle.hub_lines.specs.State.{server, phase_at};
+ghost use Rattle.hub_lines.specs.Calls.{Ties};
+ghost use Rattle.loop_runner.specs.Events.{AreSound};
+ghost use Rattle.loop_runner.specs.Ready.{IsTaken};
+ghost use Rattle.loop_runner.specs.Steps.{Every, Steps, Gives, HasFrames};
+
+use crate::giving::give;
+use frame_reader::{Reader, Step};
+use hub_core::Hub;
+use link_trait::{Net, Outside};
+use ws_kinds::{Conn, Event, Handler, Kind, Note, Phase, Watch, What};
+
+/// Takes what a connection's octets tell, as long as they tell more and it is in phase Open or Leaving. The connection was
+/// opened on this route and with this parameter.
+pub(crate) fn read_frames<N: Net, W: Watch, H: Handler>(
+    hub: &mut Hub,
+    reader: &mut Reader,
+    out: &mut Outside<N, W>,
+    handler: &mut H,
+    conn: Conn,
+    route: u8,
+    param: &[u8],
+)
+    requires frames { HasFrames (phase_at hub.old conn.0) reader.old }
+    requires ties { Ties (server hub.old (N.state out.old.net) (W.told out.old.watch)) }
+    ensures ties { Ties (server hub.new (N.state out.new.net) (W.told out.new.watch)) }
+    ensures steps { Steps Every (server hub.old (N.state out.old.net) (W.told out.old.watch)) (server hub.new (N.state out.new.net) (W.told out.new.watch)) }
+    ensures taken { IsTaken (phase_at hub.new conn.0) reader.new }
+    ensures max { max_of reader.new ≡ max_of reader.old }
+{
+    'steps: loop {
+        if !read_frame(hub, reader, out, handler, conn, route, param) {
+            return;
+        }
+    }
+}
+
+/// Takes what is told next, of a connection in phase Open or Leaving. Answers whether something was told.
+fn read_frame<N: Net, W: Watch, H: Handler>(
+    hub: &mut Hub,
+    reader: &mut Reader,
+    out: &mut Outside<N, W>,
+    handler: &mut H,
+    conn: Conn,
+    route: u8,
+    param: &[u8],
+) -> bool
+    requires frames { HasFrames (phase_at hub.old conn.0) reader.old }
+    requires ties { Ties (server hub.old (N.state out.old.net) (W.told out.old.watch)) }
+    ensures ties { Ties (server hub.new (N.state out.new.net) (W.told out.new.watch)) }
+    ensures steps { Steps Every (server hub.old (N.state out.old.net) (W.told out.old.watch)) (server hub.new (N.state out.new.net) (W.told out.new.watch)) }
+    ensures taken { result ≡ false → IsTaken (phase_at hub.new conn.0) reader.new }
+    ensures frames { result ≡ true → HasFrames (phase_at hub.new conn.0) reader.new }
+    ensures fewer { result ≡ true → length (ahead reader.new []) < length (ahead reader.old []) }
+    ensures max { max_of reader.new ≡ max_of reader.old }
+{
+    match hub.phase(conn) {
+        Some(Phase::Open) => take_open(hub, out, handler, conn, route, param, reader.next()),
+        Some(Phase::Leaving) => take_leaving(hub, out, conn, reader.next()),
+        _ => false,
+    }
+}
+
+/// Takes a step of an open connection. Answers whether it told something.
+fn take_open<N: Net, W: Watch, H: Handler>(
+    hub: &mut Hub,
+    out: &mut Outside<N, W>,
+    handler: &mut H,
+    conn: Conn,
+    route: u8,
+    param: &[u8],
+    step: Step<'_>,
+) -> bool
+    requires phase { phase_at hub.old conn.0 ≡ Some Phase.Open }
+    requires sound { AreSound (events_of step) }
+    requires ties { Ties (server hub.old (N.state out.old.net) (W.told out.old.watch)) }
+    ensures ties { Ties (server hub.new (N.state out.new.net) (W.told out.new.watch)) }
+    ensures steps { Steps Every (server hub.old (N.state out.old.net) (W.told out.old.watch)) (server hub.new (N.state out.new.net) (W.told out.new.watch)) }
+    ensures told { result ≡ true → IsMore step.entry → ⊥ }
+    ensures more { result ≡ false → IsMore step.entry }
+    ensures last { is_last step.entry ≡ true → is_reading (phase_at hub.new conn.0) ≡ false }
+{
+    match step {
+        Step::More => false,
+        Step::Message(kind, body) => {
+            give_message(hub, out, handler, conn, route, param, kind, body);
+            true
+        }
+        Step::Ping(body) => {
+            hub.ping_got(out, conn, body);
+            true
+        }
+        Step::Pong(body) => {
+            hub.pong_got(out, conn, body);
+            true
+        }
+        Step::Close(code, reason) => {
+            hub.peer_close(out, conn, code, reason);
+            true
+        }
+        Step::Failed(code) => {
+            hub.failed(out, conn, code);
+            true
+        }
+    }
+}
+
+/// Takes a step of a connection that is leaving, of which only a close and a failure count. Answers whether it told something.
+fn take_leaving<N: Net, W: Watch>(
+    hub: &mut Hub,
+    out: &mut Outside<N, W>,
+    conn: Conn,
+    step: Step<'_>,
+) -> bool
+    requires phase { phase_at hub.old conn.0 ≡ Some Phase.Leaving }
+    requires sound { AreSound (events_of step) }
+    requires ties { Ties (server hub.old (N.state out.old.net) (W.told out.old.watch)) }
+    ensures ties { Ties (server hub.new (N.state out.new.net) (W.told out.new.watch)) }
+    ensures steps { Steps Every (server hub.old (N.state out.old.net) (W.told out.old.watch)) (server hub.new (N.state out.new.net) (W.told out.new.watch)) }
+    ensures told { result ≡ true → IsMore step.entry → ⊥ }
+    ensures more { result ≡ false → IsMore step.entry }
+    ensures last { is_last step.entry ≡ true → is_reading (phase_at hub.new conn.0) ≡ false }
+{
+    match step {
+        Step::More => false,
+        Step::Message(_, _) => true,
+        Step::Ping(_) => true,
+        Step::Pong(_) => true,
+        Step::Close(code, reason) => {
+            hub.peer_close(out, conn, code, reason);
+            true
+        }
+        Step::Failed(code) => {
+            hub.failed(out, conn, code);
+            true
+        }
+    }
+}
+
+/// Notes a message of an open connection, and gives it to the handler.
+fn give_message<'m, N: Net, W: Watch, H: Handler>(
+    hub: &mut Hub,
+    out: &mut Outside<N, W>,
+    handler: &mut H,
+    conn: Conn,
+    route: u8,
+    param: &'m [u8],
+    kind: Kind,
+    body: &'m [u8],
+)
+    requires ties { Ties (server hub.old (N.state out.old.net) (W.told out.old.watch)) }
+    ensures ties { Ties (server hub.new (N.state out.new.net) (W.told out.new.watch)) }
+    ensures state { H.state handler.new ≡ H.after (H.state handler.old) (record { conn = conn.0; route = route; param = param.now; what = event.message kind body.now }) }
+    ensures gives { Gives conn.0 (note.message conn.0 kind body.now) (H.said (H.state handler.new) (record { conn = conn.0; route = route; param = param.now; what = event.message kind body.now })) (server hub.old (N.state out.old.net) (W.told out.old.watch)) (server hub.new (N.state out.new.net) (W.told out.new.watch)) }
+    ensures steps { Steps Every (server hub.old (N.state out.old.net) (W.told out.old.watch)) (server hub.new (N.state out.new.net) (W.told out.new.watch)) }
+{
+    out.watch.note(&Note::Message { conn, kind, body });
+    let what = What::Message { kind, body };
+    let event = Event {
+        conn,
+        route,
+        param,
+        what,
+    };
+    give(hub, out, handler, event);
+}

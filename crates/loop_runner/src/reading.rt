@@ -1,0 +1,145 @@
+//! Reading the octets of a connection.
+
+ghost use Rattle.std.specs.Prelude.{◌≡◌, ◌≤◌, true, false, Some, length};
+ghost use Rattle.run_meaning.specs.Settled.{is_reading};
+ghost use Rattle.frame_reader.specs.Reader.{room_of, max_of};
+ghost use Rattle.hub_lines.specs.State.{server, phase_at};
+ghost use Rattle.hub_lines.specs.Calls.{Ties};
+ghost use Rattle.loop_runner.specs.Intakes.{intake_at};
+ghost use Rattle.loop_runner.specs.Ready.{IsTaken, IsAsked};
+ghost use Rattle.loop_runner.specs.Steps.{Every, But, Steps, Running, HasFrames};
+
+use crate::admitting::judge_head;
+use crate::frames::read_frames;
+use crate::intakes::{Intake, Intakes};
+use hub_core::Hub;
+use link_trait::{Net, NetRead, Outside};
+use route_table::Routes;
+use ws_kinds::{Conn, Handler, Phase, Watch};
+
+/// The most octets of one read.
+const MOST_OCTETS: usize = 8_192;
+
+/// Reads once from a connection in phase Head, Open or Leaving, and takes what the octets say. Of any other nothing is read.
+pub(crate) fn readable<N: Net, W: Watch, H: Handler>(
+    hub: &mut Hub,
+    intakes: &mut Intakes,
+    routes: &Routes,
+    out: &mut Outside<N, W>,
+    handler: &mut H,
+    conn: Conn,
+)
+    requires taken { (intake : _) → intake_at intakes.old conn.0 ≡ Some intake → IsTaken (phase_at hub.old conn.0) intake.reader }
+    requires running { Running (But conn.0) intakes.old (server hub.old (N.state out.old.net) (W.told out.old.watch)) }
+    ensures running { Running Every intakes.new (server hub.new (N.state out.new.net) (W.told out.new.watch)) }
+    ensures steps { Steps (But conn.0) (server hub.old (N.state out.old.net) (W.told out.old.watch)) (server hub.new (N.state out.new.net) (W.told out.new.watch)) }
+{
+    if !is_read(hub, conn) {
+        return;
+    }
+    if let Some(intake) = intakes.of(conn) {
+        read(hub, intake, routes, out, handler, conn);
+    }
+}
+
+/// Whether octets of a connection are still to be read.
+fn is_read(hub: &Hub, conn: Conn) -> bool
+    ensures { result ≡ is_reading (phase_at hub.now conn.0) }
+{
+    match hub.phase(conn) {
+        None => false,
+        Some(Phase::Head) => true,
+        Some(Phase::Open) => true,
+        Some(Phase::Leaving) => true,
+        Some(Phase::Ending) => false,
+        Some(Phase::Gone) => false,
+    }
+}
+
+/// Makes one read.
+fn read<N: Net, W: Watch, H: Handler>(
+    hub: &mut Hub,
+    intake: &mut Intake,
+    routes: &Routes,
+    out: &mut Outside<N, W>,
+    handler: &mut H,
+    conn: Conn,
+)
+    requires reading { is_reading (phase_at hub.old conn.0) ≡ true }
+    requires taken { IsTaken (phase_at hub.old conn.0) intake.old.reader }
+    requires ties { Ties (server hub.old (N.state out.old.net) (W.told out.old.watch)) }
+    ensures ties { Ties (server hub.new (N.state out.new.net) (W.told out.new.watch)) }
+    ensures steps { Steps (But conn.0) (server hub.old (N.state out.old.net) (W.told out.old.watch)) (server hub.new (N.state out.new.net) (W.told out.new.watch)) }
+    ensures asked { IsAsked conn.0 (server hub.new (N.state out.new.net) (W.told out.new.watch)) }
+    ensures taken { IsTaken (phase_at hub.new conn.0) intake.new.reader }
+    ensures max { max_of intake.new.reader ≡ max_of intake.old.reader }
+{
+    let mut space = [0; MOST_OCTETS];
+    let most = intake.reader.room().min(MOST_OCTETS);
+    match out.net.read(conn, &mut space[..most]) {
+        NetRead::Octets(count) => take(hub, intake, routes, out, handler, conn, &space[..count]),
+        NetRead::End => hub.ended(out, conn),
+        NetRead::Failed => hub.link_failed(out, conn),
+        NetRead::Later => {}
+    }
+}
+
+/// Takes octets that were read: they are noted, and what they say is done.
+fn take<N: Net, W: Watch, H: Handler>(
+    hub: &mut Hub,
+    intake: &mut Intake,
+    routes: &Routes,
+    out: &mut Outside<N, W>,
+    handler: &mut H,
+    conn: Conn,
+    octets: &[u8],
+)
+    requires some { 1 ≤ length octets.now }
+    requires room { length octets.now ≤ room_of intake.old.reader }
+    requires reading { is_reading (phase_at hub.old conn.0) ≡ true }
+    requires taken { IsTaken (phase_at hub.old conn.0) intake.old.reader }
+    requires asked { (N.state out.old.net).due conn.0 ≡ false }
+    requires ties { Ties (server hub.old (N.state out.old.net) (W.told out.old.watch)) }
+    ensures ties { Ties (server hub.new (N.state out.new.net) (W.told out.new.watch)) }
+    ensures steps { Steps (But conn.0) (server hub.old (N.state out.old.net) (W.told out.old.watch)) (server hub.new (N.state out.new.net) (W.told out.new.watch)) }
+    ensures asked { IsAsked conn.0 (server hub.new (N.state out.new.net) (W.told out.new.watch)) }
+    ensures taken { IsTaken (phase_at hub.new conn.0) intake.new.reader }
+    ensures max { max_of intake.new.reader ≡ max_of intake.old.reader }
+{
+    hub.given(out, conn, octets.len() as u64);
+    intake.reader.feed(octets);
+    match hub.phase(conn) {
+        Some(Phase::Head) => judge_head(hub, intake, routes, out, handler, conn),
+        Some(Phase::Open) => go_on(hub, intake, out, handler, conn),
+        Some(Phase::Leaving) => go_on(hub, intake, out, handler, conn),
+        _ => {}
+    }
+}
+
+/// Takes the frames of a connection in phase Open or Leaving.
+fn go_on<N: Net, W: Watch, H: Handler>(
+    hub: &mut Hub,
+    intake: &mut Intake,
+    out: &mut Outside<N, W>,
+    handler: &mut H,
+    conn: Conn,
+)
+    requires frames { HasFrames (phase_at hub.old conn.0) intake.old.reader }
+    requires asked { (N.state out.old.net).due conn.0 ≡ false }
+    requires ties { Ties (server hub.old (N.state out.old.net) (W.told out.old.watch)) }
+    ensures ties { Ties (server hub.new (N.state out.new.net) (W.told out.new.watch)) }
+    ensures steps { Steps (But conn.0) (server hub.old (N.state out.old.net) (W.told out.old.watch)) (server hub.new (N.state out.new.net) (W.told out.new.watch)) }
+    ensures asked { IsAsked conn.0 (server hub.new (N.state out.new.net) (W.told out.new.watch)) }
+    ensures taken { IsTaken (phase_at hub.new conn.0) intake.new.reader }
+    ensures max { max_of intake.new.reader ≡ max_of intake.old.reader }
+{
+    read_frames(
+        hub,
+        &mut intake.reader,
+        out,
+        handler,
+        conn,
+        intake.route,
+        intake.param.as_slice(),
+    );
+}

@@ -1,0 +1,137 @@
+//! One turn.
+
+ghost use Rattle.std.specs.Prelude.{◌≡◌, ◌<◌, ◌≤◌, ◌^◌, ◌-◌, true, IfNone, IfSome};
+ghost use Rattle.link_trait.specs.Link.{Rose};
+ghost use Rattle.hub_lines.specs.State.{server};
+ghost use Rattle.hub_table.specs.Table.{IsTable, table_of};
+ghost use Rattle.loop_runner.specs.Ready.{Ready};
+ghost use Rattle.loop_runner.specs.Steps.{Every, Steps, Running, Onward};
+ghost use Rattle.loop_runner.specs.Turns.{PassesTurn, PassesBetween, FailsAs};
+
+use crate::arriving::arrive;
+use crate::closing::{close_all, tidy};
+use crate::intakes::Intakes;
+use crate::reading::readable;
+use hub_core::Hub;
+use link_trait::{Net, NetEvent, Outside};
+use route_table::Routes;
+use ws_kinds::{Handler, Watch};
+
+/// How a turn ended.
+#[derive(Clone, Copy, Debug, PartialEq, Eq)]
+pub enum Turned {
+    /// All that was ready has been told.
+    Turn,
+    /// Nothing will come any more.
+    Stop,
+    /// The net had a fault, which it counted.
+    Failed,
+}
+
+/// Makes one turn: takes what the net tells, until it tells that all was told, that nothing will come any more, or that it had
+/// a fault.
+///
+/// First all Closed events that are due are given to the handler, and again after each thing that the net told. What the
+/// handler orders in answer to an event is done before anything else.
+///
+/// The hub and the intakes have to be ready, as they are when both are new and as this leaves them: they have the same
+/// connections and the same limit of a message's octets, the net named each of them, no frame is pending, and what came of each
+/// connection was taken. A turn ends as `Failed` only where the net counted a fault in it.
+pub fn run_turn<N: Net, W: Watch, H: Handler>(
+    hub: &mut Hub,
+    intakes: &mut Intakes,
+    routes: &Routes,
+    out: &mut Outside<N, W>,
+    handler: &mut H,
+) -> Turned
+    requires ready { Ready intakes.old (server hub.old (N.state out.old.net) (W.told out.old.watch)) }
+    ensures ready { Ready intakes.new (server hub.new (N.state out.new.net) (W.told out.new.watch)) }
+    ensures passed { PassesTurn result (N.state out.old.net) (N.state out.new.net) }
+    ensures failed { FailsAs result (N.state out.old.net).faults (N.state out.new.net).faults }
+{
+    begin(hub, intakes, out, handler);
+    'events: loop {
+        match take_event(hub, intakes, routes, out, handler) {
+            None => {}
+            Some(turned) => return turned,
+        }
+    }
+}
+
+/// Gives the Closed events that are due since the last turn.
+fn begin<N: Net, W: Watch, H: Handler>(
+    hub: &mut Hub,
+    intakes: &mut Intakes,
+    out: &mut Outside<N, W>,
+    handler: &mut H,
+)
+    requires ready { Ready intakes.old (server hub.old (N.state out.old.net) (W.told out.old.watch)) }
+    ensures running { Running Every intakes.new (server hub.new (N.state out.new.net) (W.told out.new.watch)) }
+    ensures table { IsTable (table_of hub.new) }
+    ensures steps { Steps Every (server hub.old (N.state out.old.net) (W.told out.old.watch)) (server hub.new (N.state out.new.net) (W.told out.new.watch)) }
+{
+    if hub.count() == 0 {
+        return;
+    }
+    close_all(hub, intakes, out, handler);
+}
+
+/// Takes the next event, and gives the Closed events that are due then. Answers how the turn ended, if it did.
+fn take_event<N: Net, W: Watch, H: Handler>(
+    hub: &mut Hub,
+    intakes: &mut Intakes,
+    routes: &Routes,
+    out: &mut Outside<N, W>,
+    handler: &mut H,
+) -> Option<Turned>
+    requires table { IsTable (table_of hub.old) }
+    requires running { Running Every intakes.old (server hub.old (N.state out.old.net) (W.told out.old.watch)) }
+    ensures running { IfNone result (Running Every intakes.new (server hub.new (N.state out.new.net) (W.told out.new.watch))) }
+    ensures table { IfNone result (IsTable (table_of hub.new)) }
+    ensures fell { IfNone result ((N.state out.new.net).room < (N.state out.old.net).room) }
+    ensures passed { IfNone result (PassesBetween (N.state out.old.net) (N.state out.new.net)) }
+    ensures ready { IfSome result (λ turned. Ready intakes.new (server hub.new (N.state out.new.net) (W.told out.new.watch))) }
+    ensures ends { IfSome result (λ turned. PassesTurn turned (N.state out.old.net) (N.state out.new.net)) }
+    ensures failed { IfSome result (λ turned. FailsAs turned (N.state out.old.net).faults (N.state out.new.net).faults) }
+{
+    match out.net.next() {
+        NetEvent::Accept(conn) => {
+            arrive(hub, intakes, out, conn);
+            close_all(hub, intakes, out, handler);
+            None
+        }
+        NetEvent::Readable(conn) => {
+            readable(hub, intakes, routes, out, handler, conn);
+            close_all(hub, intakes, out, handler);
+            None
+        }
+        NetEvent::Writable(_) => None,
+        NetEvent::Tick => {
+            hub.tick(out);
+            close_all(hub, intakes, out, handler);
+            None
+        }
+        NetEvent::Turn => {
+            end_turn(hub, intakes, out);
+            Some(Turned::Turn)
+        }
+        NetEvent::Stop => {
+            end_turn(hub, intakes, out);
+            Some(Turned::Stop)
+        }
+        NetEvent::Failed => {
+            end_turn(hub, intakes, out);
+            Some(Turned::Failed)
+        }
+    }
+}
+
+/// Ends the turn. Each connection that is no entry any more has no intake then.
+fn end_turn<N: Net, W: Watch>(hub: &mut Hub, intakes: &mut Intakes, out: &mut Outside<N, W>)
+    requires running { Running Every intakes.old (server hub.old (N.state out.old.net) (W.told out.old.watch)) }
+    ensures ready { Ready intakes.new (server hub.new (N.state out.new.net) (W.told out.new.watch)) }
+    ensures steps { Steps Every (server hub.old (N.state out.old.net) (W.told out.old.watch)) (server hub.new (N.state out.new.net) (W.told out.new.watch)) }
+{
+    hub.end_turn(out);
+    tidy(hub, intakes);
+}

@@ -1,0 +1,48 @@
+//! Turn after turn.
+
+ghost use Rattle.hub_lines.specs.State.{server};
+ghost use Rattle.loop_runner.specs.Ready.{Ready};
+ghost use Rattle.loop_runner.specs.Turns.{Runs};
+
+use crate::intakes::Intakes;
+use crate::turn::{Turned, run_turn};
+use hub_core::Hub;
+use link_trait::{Net, Outside};
+use route_table::Routes;
+use ws_kinds::{Handler, Watch};
+
+/// How a run ended.
+#[derive(Clone, Copy, Debug, PartialEq, Eq)]
+pub enum Ran {
+    /// Nothing will come any more. So many turns were made, the last one with it.
+    Stopped(u64),
+    /// As many turns were made as were asked for.
+    Spent,
+    /// The net had a fault, which it counted.
+    NetFault,
+}
+
+/// Makes turns, until nothing will come any more, the net has a fault, or so many were made. Where `turns` is 0, none is made.
+///
+/// The hub and the intakes have to be ready, as for [`run_turn`], and are so afterwards.
+pub fn run<N: Net, W: Watch, H: Handler>(
+    hub: &mut Hub,
+    intakes: &mut Intakes,
+    routes: &Routes,
+    out: &mut Outside<N, W>,
+    handler: &mut H,
+    turns: u64,
+) -> Ran
+    requires ready { Ready intakes.old (server hub.old (N.state out.old.net) (W.told out.old.watch)) }
+    ensures ready { Ready intakes.new (server hub.new (N.state out.new.net) (W.told out.new.watch)) }
+    ensures runs { Runs result turns (N.state out.old.net) (N.state out.new.net) }
+{
+    'turns: for turn in 0..turns {
+        match run_turn(hub, intakes, routes, out, handler) {
+            Turned::Turn => {}
+            Turned::Stop => return Ran::Stopped(turn + 1),
+            Turned::Failed => return Ran::NetFault,
+        }
+    }
+    Ran::Spent
+}
