@@ -50,7 +50,7 @@ gone_or_same e = by_phase e.phase e refl
     by_phase Ending x q = ap (λ (z : Phase). unless_gone (Some (cond (is_gone z) no_entry x).phase)) q
     by_phase Gone x q = ap (λ (z : Phase). unless_gone (Some (cond (is_gone z) no_entry x).phase)) q ∙ sym (ap (λ (z : Phase). unless_gone (Some z)) q)
 
-taken_phase : (p : PartingValue) (a b : HubState) → TakesDue (Some p) (table_of a) (table_of b) → (c : ℕ) → (progress_at b c).phase ≡ (progress_at a c).phase
+pub taken_phase : (p : PartingValue) (a b : HubState) → TakesDue (Some p) (table_of a) (table_of b) → (c : ℕ) → (progress_at b c).phase ≡ (progress_at a c).phase
 taken_phase p a b x c = ⊎_elim
     (λ (same : c ≡ p.conn).
     ap (λ (z : ℕ). unless_gone (Some (entry_of b.entries z).phase)) same

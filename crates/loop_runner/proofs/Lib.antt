@@ -9,3 +9,11 @@ pub mod TidyLemmas
 pub mod CloseLemmas
 pub mod ArriveLemmas
 pub mod TurnLemmas
+pub mod GrowLemmas
+pub mod KeepLemmas
+pub mod FrameKeeps
+pub mod AdmitLemmas
+pub mod ReadKeepLemmas
+pub mod CloseKeepLemmas
+pub mod TurnKeeps
+pub mod RightLemmas

@@ -25,7 +25,7 @@ is_admitted intakes conn = is_some (intake_at intakes conn)
 -- the intake of a connection that was just admitted
 abbrev pub IsNew : ℕ → Option Intake → Type 0
 IsNew max None = ⊥
-IsNew max (Some intake) = (is_unread intake.reader ≡ true) × (raw_of intake.reader ≡ []) × (reader.max_of intake.reader ≡ max)
+IsNew max (Some intake) = (is_unread intake.reader ≡ true) × (raw_of intake.reader ≡ []) × (reader.max_of intake.reader ≡ max) × (intake.route ≡ 0) × (intake.param.items ≡ [])
 
 -- the connection's intake may have changed, and no other
 pub record ChangesIntake (conn : ℕ) (old new : Intakes) : Type 0 where

@@ -4,3 +4,4 @@ pub mod Steps
 pub mod Events
 pub mod Heads
 pub mod Turns
+pub mod Keeps

@@ -1,6 +1,6 @@
 //! The head of a connection's request (RFC 6455, section 4.2).
 
-ghost use Rattle.std.specs.Prelude.{◌≡◌, ◌<◌, ◌≤◌, ◌++◌, ℕ, List, [], ◌∷◌, true, false, length, drop, Some, if◌then◌else◌};
+ghost use Rattle.std.specs.Prelude.{◌≡◌, ◌<◌, ◌≤◌, ◌++◌, ℕ, List, [], ◌∷◌, true, false, length, drop, Some, if◌then◌else◌, None, take};
 ghost use Rattle.ws_kinds.specs.declared.note.Phase.TheVariants as phase;
 ghost use Rattle.ws_kinds.specs.EventValue as event;
 ghost use Rattle.wire_meaning.specs.Reading.{reading};
@@ -11,9 +11,14 @@ ghost use Rattle.run_meaning.specs.Settled.{is_reading};
 ghost use Rattle.frame_reader.specs.Reader.{raw_of, max_of, ahead, is_unread, has_ended};
 ghost use Rattle.hub_lines.specs.State.{server, phase_at};
 ghost use Rattle.hub_lines.specs.Calls.{Ties};
+ghost use Rattle.hub_table.specs.Table.{IsTable, table_of};
 ghost use Rattle.loop_runner.specs.Ready.{IsTaken, IsAsked};
 ghost use Rattle.loop_runner.specs.Steps.{But, Steps, HasFrames};
 ghost use Rattle.loop_runner.specs.Heads.{decision_seen, Opens};
+ghost use Rattle.ws_kinds.specs.ConfigValue.{ConfigValue};
+ghost use Rattle.route_table.specs.Table.{RouteTable};
+ghost use Rattle.run_kept.specs.Kept.{IntakeView};
+ghost use Rattle.loop_runner.specs.Keeps.{Grows, KeptAll, view_of, intake_view, with_view, AreViews};
 
 use crate::frames::read_frames;
 use crate::giving::give;
@@ -66,6 +71,8 @@ pub(crate) fn judge_head<N: Net, W: Watch, H: Handler>(
     ensures asked { IsAsked conn.0 (server hub.new (N.state out.new.net) (W.told out.new.watch)) }
     ensures taken { IsTaken (phase_at hub.new conn.0) intake.new.reader }
     ensures max { max_of intake.new.reader ≡ max_of intake.old.reader }
+    ensures grows { Grows (server hub.old (N.state out.old.net) (W.told out.old.watch)) (server hub.new (N.state out.new.net) (W.told out.new.watch)) }
+    ensures kept { (start : H.State) (config : ConfigValue) (views : ℕ → IntakeView) → views conn.0 ≡ intake_view intake.old → KeptAll start H.after H.said config routes.now (server hub.old (N.state out.old.net) (W.told out.old.watch)) (H.state handler.old) views (Some conn.0) → KeptAll start H.after H.said config routes.now (server hub.new (N.state out.new.net) (W.told out.new.watch)) (H.state handler.new) (with_view conn.0 (intake_view intake.new) views) None }
 {
     match decide(intake, routes) {
         Decision::More => {}
@@ -137,6 +144,7 @@ fn admit<N: Net, W: Watch, H: Handler>(
     requires unread { is_unread intake.old.reader ≡ true }
     requires end { admission.end ≤ length (raw_of intake.old.reader) }
     requires route { admission.route < length routes.now.protocols }
+    requires judged { Judged routes.now (raw_of intake.old.reader) (decision_seen (Decision.Admit admission)) }
     requires asked { (N.state out.old.net).due conn.0 ≡ false }
     requires ties { Ties (server hub.old (N.state out.old.net) (W.told out.old.watch)) }
     ensures ties { Ties (server hub.new (N.state out.new.net) (W.told out.new.watch)) }
@@ -144,6 +152,8 @@ fn admit<N: Net, W: Watch, H: Handler>(
     ensures asked { IsAsked conn.0 (server hub.new (N.state out.new.net) (W.told out.new.watch)) }
     ensures taken { IsTaken (phase_at hub.new conn.0) intake.new.reader }
     ensures max { max_of intake.new.reader ≡ max_of intake.old.reader }
+    ensures grows { Grows (server hub.old (N.state out.old.net) (W.told out.old.watch)) (server hub.new (N.state out.new.net) (W.told out.new.watch)) }
+    ensures kept { (start : H.State) (config : ConfigValue) (views : ℕ → IntakeView) → views conn.0 ≡ intake_view intake.old → KeptAll start H.after H.said config routes.now (server hub.old (N.state out.old.net) (W.told out.old.watch)) (H.state handler.old) views (Some conn.0) → KeptAll start H.after H.said config routes.now (server hub.new (N.state out.new.net) (W.told out.new.watch)) (H.state handler.new) (with_view conn.0 (intake_view intake.new) views) None }
 {
     let reply = reply(
         &admission.accept,
@@ -196,6 +206,8 @@ fn open<N: Net, W: Watch, H: Handler>(
     ensures steps { Steps (But conn.0) (server hub.old (N.state out.old.net) (W.told out.old.watch)) (server hub.new (N.state out.new.net) (W.told out.new.watch)) }
     ensures due { is_reading (phase_at hub.new conn.0) ≡ true → (N.state out.new.net).due conn.0 ≡ (N.state out.old.net).due conn.0 }
     ensures entered { is_reading (phase_at hub.new conn.0) ≡ true → phase_at hub.new conn.0 ≡ Some phase.Open }
+    ensures grows { Grows (server hub.old (N.state out.old.net) (W.told out.old.watch)) (server hub.new (N.state out.new.net) (W.told out.new.watch)) }
+    ensures table { IsTable (table_of hub.new) }
 {
     let route = intake.route;
     let param = intake.param.as_slice();

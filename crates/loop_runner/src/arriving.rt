@@ -1,9 +1,16 @@
 //! Connections that come.
 
-ghost use Rattle.std.specs.Prelude.{◌≡◌, ◌<◌, ◌≤◌, None, true, false};
+ghost use Rattle.std.specs.Prelude.{◌≡◌, ◌<◌, ◌≤◌, ◌^◌, ◌-◌, ℕ, length, None, true, false};
 ghost use Rattle.ws_kinds.specs.NoteValue.{note_value};
 ghost use Rattle.ws_kinds.specs.Watch.{IsNoted};
 ghost use Rattle.link_trait.specs.Net.{Shuts};
+ghost use Rattle.ws_kinds.specs.ConfigValue.{ConfigValue};
+ghost use Rattle.link_trait.specs.NetState.{NetState};
+ghost use Rattle.link_trait.specs.declared.net.NetEvent.TheVariants as answer;
+ghost use Rattle.link_trait.specs.Net.{Nexts};
+ghost use Rattle.route_table.specs.Table.{RouteTable};
+ghost use Rattle.run_kept.specs.Kept.{IntakeView};
+ghost use Rattle.loop_runner.specs.Keeps.{Grows, KeptAll, AreViews};
 ghost use Rattle.hub_lines.specs.State.{server};
 ghost use Rattle.hub_table.specs.Table.{IsTable, table_of};
 ghost use Rattle.loop_runner.specs.Intakes.{intake_at, ChangesIntake};
@@ -12,14 +19,15 @@ ghost use Rattle.loop_runner.specs.Steps.{Every, Running, Onward};
 use crate::intakes::Intakes;
 use hub_core::{Arrival, Hub};
 use link_trait::{Net, Outside};
-use ws_kinds::{Conn, Note, Watch};
+use ws_kinds::{Conn, Handler, Note, Watch};
 
 /// Takes in a connection that came: it has an intake, and the hub accepts it. Where either is refused, both are as before, the
-/// refusal is noted, and its link is shut.
-pub(crate) fn arrive<N: Net, W: Watch>(
+/// refusal is noted, and its link is shut. The handler is not asked: it stands here for what is kept beside its state.
+pub(crate) fn arrive<N: Net, W: Watch, H: Handler>(
     hub: &mut Hub,
     intakes: &mut Intakes,
     out: &mut Outside<N, W>,
+    handler: &H,
     conn: Conn,
 )
     requires new { hub.old.named < conn.0 }
@@ -30,30 +38,13 @@ pub(crate) fn arrive<N: Net, W: Watch>(
     requires running { Running Every intakes.old (server hub.old (N.state out.old.net) (W.told out.old.watch)) }
     ensures running { Running Every intakes.new (server hub.new (N.state out.new.net) (W.told out.new.watch)) }
     ensures onward { Onward (server hub.old (N.state out.old.net) (W.told out.old.watch)) (server hub.new (N.state out.new.net) (W.told out.new.watch)) }
+    ensures grows { Grows (server hub.old (N.state out.old.net) (W.told out.old.watch)) (server hub.new (N.state out.new.net) (W.told out.new.watch)) }
+    ensures kept { (start : H.State) (config : ConfigValue) (table : RouteTable) (views : ℕ → IntakeView) (before : NetState) → Nexts (answer.Accept conn) before (N.state out.old.net) → length before.passed < 2 ^ 64 - 1 → AreViews intakes.old views → KeptAll start H.after H.said config table (server hub.old before (W.told out.old.watch)) (H.state handler.now) views None → (later : ℕ → IntakeView) × AreViews intakes.new later × KeptAll start H.after H.said config table (server hub.new (N.state out.new.net) (W.told out.new.watch)) (H.state handler.now) later None }
 {
     if hub.full() {
         turn_away(out, conn, &Note::Busy(conn));
         return;
     }
-    take_in(hub, intakes, out, conn);
-}
-
-/// Takes in a connection, for which there is place.
-fn take_in<N: Net, W: Watch>(
-    hub: &mut Hub,
-    intakes: &mut Intakes,
-    out: &mut Outside<N, W>,
-    conn: Conn,
-)
-    requires new { hub.old.named < conn.0 }
-    requires named { conn.0 ≤ (N.state out.old.net).named }
-    requires live { (N.state out.old.net).live conn.0 ≡ true }
-    requires unasked { (N.state out.old.net).due conn.0 ≡ false }
-    requires table { IsTable (table_of hub.old) }
-    requires running { Running Every intakes.old (server hub.old (N.state out.old.net) (W.told out.old.watch)) }
-    ensures running { Running Every intakes.new (server hub.new (N.state out.new.net) (W.told out.new.watch)) }
-    ensures onward { Onward (server hub.old (N.state out.old.net) (W.told out.old.watch)) (server hub.new (N.state out.new.net) (W.told out.new.watch)) }
-{
     if intakes.admit(conn).is_err() {
         turn_away(out, conn, &Note::NoRoom(conn));
         return;

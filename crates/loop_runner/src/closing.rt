@@ -13,6 +13,13 @@ ghost use Rattle.hub_table.specs.Parting.{parting_value};
 ghost use Rattle.hub_table.specs.Table.{IsTable, TakesDue, table_of};
 ghost use Rattle.loop_runner.specs.Intakes.{max_of, intake_at, is_admitted, ChangesIntake, SameIntakes};
 ghost use Rattle.loop_runner.specs.Steps.{Every, Steps, Gives, Running, is_kept_at, weight_below};
+ghost use Rattle.hub_lines.specs.State.{HubState};
+ghost use Rattle.hub_lines.specs.Calls.{nothing};
+ghost use Rattle.hub_notes.specs.Calls.{Appends};
+ghost use Rattle.ws_kinds.specs.ConfigValue.{ConfigValue};
+ghost use Rattle.route_table.specs.Table.{RouteTable};
+ghost use Rattle.run_kept.specs.Kept.{IntakeView};
+ghost use Rattle.loop_runner.specs.Keeps.{Grows, KeptAll, AreViews};
 
 use crate::giving::give;
 use crate::intakes::Intakes;
@@ -34,6 +41,8 @@ pub(crate) fn close_all<N: Net, W: Watch, H: Handler>(
     ensures none { (conn : ℕ) → due_at hub.new conn ≡ None }
     ensures table { IsTable (table_of hub.new) }
     ensures entries { (conn : ℕ) → has_entry hub.new.entries conn ≡ is_admitted intakes.new conn }
+    ensures grows { Grows (server hub.old (N.state out.old.net) (W.told out.old.watch)) (server hub.new (N.state out.new.net) (W.told out.new.watch)) }
+    ensures kept { (start : H.State) (config : ConfigValue) (table : RouteTable) (views : ℕ → IntakeView) → AreViews intakes.old views → KeptAll start H.after H.said config table (server hub.old (N.state out.old.net) (W.told out.old.watch)) (H.state handler.old) views None → AreViews intakes.new views × KeptAll start H.after H.said config table (server hub.new (N.state out.new.net) (W.told out.new.watch)) (H.state handler.new) views None }
 {
     close_due(hub, intakes, out, handler);
     tidy(hub, intakes);
@@ -50,6 +59,8 @@ fn close_due<N: Net, W: Watch, H: Handler>(
     ensures running { Running Every intakes.new (server hub.new (N.state out.new.net) (W.told out.new.watch)) }
     ensures steps { Steps Every (server hub.old (N.state out.old.net) (W.told out.old.watch)) (server hub.new (N.state out.new.net) (W.told out.new.watch)) }
     ensures none { (conn : ℕ) → due_at hub.new conn ≡ None }
+    ensures grows { Grows (server hub.old (N.state out.old.net) (W.told out.old.watch)) (server hub.new (N.state out.new.net) (W.told out.new.watch)) }
+    ensures kept { (start : H.State) (config : ConfigValue) (table : RouteTable) (views : ℕ → IntakeView) → AreViews intakes.old views → KeptAll start H.after H.said config table (server hub.old (N.state out.old.net) (W.told out.old.watch)) (H.state handler.old) views None → AreViews intakes.new views × KeptAll start H.after H.said config table (server hub.new (N.state out.new.net) (W.told out.new.watch)) (H.state handler.new) views None }
 {
     'closed: loop {
         if !close_next(hub, intakes, out, handler) {
@@ -70,6 +81,8 @@ fn close_next<N: Net, W: Watch, H: Handler>(
     ensures steps { Steps Every (server hub.old (N.state out.old.net) (W.told out.old.watch)) (server hub.new (N.state out.new.net) (W.told out.new.watch)) }
     ensures none { result ≡ false → (conn : ℕ) → due_at hub.new conn ≡ None }
     ensures fewer { result ≡ true → weight_below (suc hub.new.named) hub.new < weight_below (suc hub.old.named) hub.old }
+    ensures grows { Grows (server hub.old (N.state out.old.net) (W.told out.old.watch)) (server hub.new (N.state out.new.net) (W.told out.new.watch)) }
+    ensures kept { (start : H.State) (config : ConfigValue) (table : RouteTable) (views : ℕ → IntakeView) → AreViews intakes.old views → KeptAll start H.after H.said config table (server hub.old (N.state out.old.net) (W.told out.old.watch)) (H.state handler.old) views None → AreViews intakes.new views × KeptAll start H.after H.said config table (server hub.new (N.state out.new.net) (W.told out.new.watch)) (H.state handler.new) views None }
 {
     match take_closed(hub) {
         None => false,
@@ -86,6 +99,7 @@ fn take_closed(hub: &mut Hub) -> Option<Parting>
     ensures none { IfNone result (hub.new ≡ hub.old) }
     ensures steps { IfSome result (λ parting. (net : NetState) (told : Option (List NoteValue)) → Steps Every (server hub.old net told) (server hub.new net told)) }
     ensures fewer { IfSome result (λ parting. weight_below (suc hub.new.named) hub.new < weight_below (suc hub.old.named) hub.old) }
+    ensures appends { IfSome result (λ parting. (net : NetState) (told : Option (List NoteValue)) → Appends nothing (server hub.old net told) (server hub.new net told)) }
 {
     if hub.count() == 0 {
         return None;
@@ -104,6 +118,8 @@ fn close<N: Net, W: Watch, H: Handler>(
     requires running { Running Every intakes.old (server hub.old (N.state out.old.net) (W.told out.old.watch)) }
     ensures running { Running Every intakes.new (server hub.new (N.state out.new.net) (W.told out.new.watch)) }
     ensures steps { Steps Every (server hub.old (N.state out.old.net) (W.told out.old.watch)) (server hub.new (N.state out.new.net) (W.told out.new.watch)) }
+    ensures grows { Grows (server hub.old (N.state out.old.net) (W.told out.old.watch)) (server hub.new (N.state out.new.net) (W.told out.new.watch)) }
+    ensures kept { (start : H.State) (config : ConfigValue) (table : RouteTable) (views : ℕ → IntakeView) (before : HubState) → TakesDue (Some (parting_value parting.now)) (table_of before) (table_of hub.old) → Appends nothing (server before (N.state out.old.net) (W.told out.old.watch)) (server hub.old (N.state out.old.net) (W.told out.old.watch)) → is_admitted intakes.old parting.now.conn.0 ≡ true → AreViews intakes.old views → KeptAll start H.after H.said config table (server before (N.state out.old.net) (W.told out.old.watch)) (H.state handler.old) views None → AreViews intakes.new views × KeptAll start H.after H.said config table (server hub.new (N.state out.new.net) (W.told out.new.watch)) (H.state handler.new) views None }
 {
     give_closed(hub, intakes, out, handler, parting);
     if !is_entry(hub, parting.conn) {
@@ -137,6 +153,8 @@ fn give_closed<N: Net, W: Watch, H: Handler>(
         → Gives parting.now.conn.0 (note.closed parting.now.conn.0 parting.now.code parting.now.reason.items)
         (H.said (H.state handler.new) (record { conn = parting.now.conn.0; route = intake.route; param = intake.param.items; what = event.closed parting.now.code parting.now.reason.items })) (server hub.old (N.state out.old.net) (W.told out.old.watch)) (server hub.new (N.state out.new.net) (W.told out.new.watch)) }
     ensures steps { Steps Every (server hub.old (N.state out.old.net) (W.told out.old.watch)) (server hub.new (N.state out.new.net) (W.told out.new.watch)) }
+    ensures grows { Grows (server hub.old (N.state out.old.net) (W.told out.old.watch)) (server hub.new (N.state out.new.net) (W.told out.new.watch)) }
+    ensures kept { (start : H.State) (config : ConfigValue) (table : RouteTable) (views : ℕ → IntakeView) (before : HubState) → TakesDue (Some (parting_value parting.now)) (table_of before) (table_of hub.old) → Appends nothing (server before (N.state out.old.net) (W.told out.old.watch)) (server hub.old (N.state out.old.net) (W.told out.old.watch)) → is_admitted intakes.now parting.now.conn.0 ≡ true → AreViews intakes.now views → KeptAll start H.after H.said config table (server before (N.state out.old.net) (W.told out.old.watch)) (H.state handler.old) views None → KeptAll start H.after H.said config table (server hub.new (N.state out.new.net) (W.told out.new.watch)) (H.state handler.new) views None }
 {
     let conn = parting.conn;
     let code = parting.code;
@@ -160,6 +178,7 @@ pub(crate) fn tidy(hub: &Hub, intakes: &mut Intakes)
     ensures entries { (conn : ℕ) → has_entry hub.now.entries conn ≡ is_admitted intakes.new conn }
     ensures max { max_of intakes.new ≡ max_of intakes.old }
     ensures kept { (conn : ℕ) → has_entry hub.now.entries conn ≡ true → intake_at intakes.new conn ≡ intake_at intakes.old conn }
+    ensures views { (views : ℕ → IntakeView) → AreViews intakes.old views → AreViews intakes.new views }
 {
     if intakes.count() == hub.count() {
         return;

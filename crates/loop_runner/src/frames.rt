@@ -1,16 +1,22 @@
 //! The frames of a connection in phase Open or Leaving.
 
-ghost use Rattle.std.specs.Prelude.{◌≡◌, ◌<◌, [], true, false, length, Some};
+ghost use Rattle.std.specs.Prelude.{◌≡◌, ◌<◌, ℕ, [], true, false, length, Some, None, if◌then◌else◌};
 ghost use Rattle.ws_kinds.specs.NoteValue as note;
 ghost use Rattle.ws_kinds.specs.EventValue as event;
 ghost use Rattle.run_meaning.specs.Settled.{is_reading};
 ghost use Rattle.frame_reader.specs.Reader.{ahead, max_of};
-ghost use Rattle.frame_reader.specs.Step.{events_of, is_last, IsMore};
+ghost use Rattle.frame_reader.specs.Step.{events_of, is_last, IsMore, HasStepped};
 ghost use Rattle.hub_lines.specs.State.{server, phase_at};
 ghost use Rattle.hub_lines.specs.Calls.{Ties};
+ghost use Rattle.hub_table.specs.Table.{IsTable, table_of};
 ghost use Rattle.loop_runner.specs.Events.{AreSound};
 ghost use Rattle.loop_runner.specs.Ready.{IsTaken};
 ghost use Rattle.loop_runner.specs.Steps.{Every, Steps, Gives, HasFrames};
+ghost use Rattle.ws_kinds.specs.ConfigValue.{ConfigValue};
+ghost use Rattle.route_table.specs.Table.{RouteTable};
+ghost use Rattle.run_kept.specs.Kept.{IntakeView};
+ghost use Rattle.loop_runner.specs.Keeps.{Grows, KeptAll, view_of, intake_view, with_view, AreViews};
+ghost use Rattle.frame_reader.specs.declared.reader.Reader.{Reader as ReaderValue};
 
 use crate::giving::give;
 use frame_reader::{Reader, Step};
@@ -35,6 +41,8 @@ pub(crate) fn read_frames<N: Net, W: Watch, H: Handler>(
     ensures steps { Steps Every (server hub.old (N.state out.old.net) (W.told out.old.watch)) (server hub.new (N.state out.new.net) (W.told out.new.watch)) }
     ensures taken { IsTaken (phase_at hub.new conn.0) reader.new }
     ensures max { max_of reader.new ≡ max_of reader.old }
+    ensures grows { Grows (server hub.old (N.state out.old.net) (W.told out.old.watch)) (server hub.new (N.state out.new.net) (W.told out.new.watch)) }
+    ensures kept { (start : H.State) (config : ConfigValue) (table : RouteTable) (views : ℕ → IntakeView) → views conn.0 ≡ view_of reader.old route param.now → KeptAll start H.after H.said config table (server hub.old (N.state out.old.net) (W.told out.old.watch)) (H.state handler.old) views (Some conn.0) → KeptAll start H.after H.said config table (server hub.new (N.state out.new.net) (W.told out.new.watch)) (H.state handler.new) (with_view conn.0 (view_of reader.new route param.now) views) None }
 {
     'steps: loop {
         if !read_frame(hub, reader, out, handler, conn, route, param) {
@@ -61,11 +69,16 @@ fn read_frame<N: Net, W: Watch, H: Handler>(
     ensures frames { result ≡ true → HasFrames (phase_at hub.new conn.0) reader.new }
     ensures fewer { result ≡ true → length (ahead reader.new []) < length (ahead reader.old []) }
     ensures max { max_of reader.new ≡ max_of reader.old }
+    ensures grows { Grows (server hub.old (N.state out.old.net) (W.told out.old.watch)) (server hub.new (N.state out.new.net) (W.told out.new.watch)) }
+    ensures kept { (start : H.State) (config : ConfigValue) (table : RouteTable) (views : ℕ → IntakeView) → views conn.0 ≡ view_of reader.old route param.now → KeptAll start H.after H.said config table (server hub.old (N.state out.old.net) (W.told out.old.watch)) (H.state handler.old) views (Some conn.0) → KeptAll start H.after H.said config table (server hub.new (N.state out.new.net) (W.told out.new.watch)) (H.state handler.new) (with_view conn.0 (view_of reader.new route param.now) views) (if result then Some conn.0 else None) }
 {
     match hub.phase(conn) {
         Some(Phase::Open) => take_open(hub, out, handler, conn, route, param, reader.next()),
         Some(Phase::Leaving) => take_leaving(hub, out, conn, reader.next()),
-        _ => false,
+        Some(Phase::Head) => false,
+        Some(Phase::Ending) => false,
+        Some(Phase::Gone) => false,
+        None => false,
     }
 }
 
@@ -87,6 +100,8 @@ fn take_open<N: Net, W: Watch, H: Handler>(
     ensures told { result ≡ true → IsMore step.entry → ⊥ }
     ensures more { result ≡ false → IsMore step.entry }
     ensures last { is_last step.entry ≡ true → is_reading (phase_at hub.new conn.0) ≡ false }
+    ensures grows { Grows (server hub.old (N.state out.old.net) (W.told out.old.watch)) (server hub.new (N.state out.new.net) (W.told out.new.watch)) }
+    ensures kept { (start : H.State) (config : ConfigValue) (table : RouteTable) (views : ℕ → IntakeView) (before after : ReaderValue) → HasStepped before step.entry after → views conn.0 ≡ view_of before route param.now → KeptAll start H.after H.said config table (server hub.old (N.state out.old.net) (W.told out.old.watch)) (H.state handler.old) views (Some conn.0) → KeptAll start H.after H.said config table (server hub.new (N.state out.new.net) (W.told out.new.watch)) (H.state handler.new) (with_view conn.0 (view_of after route param.now) views) (if result then Some conn.0 else None) }
 {
     match step {
         Step::More => false,
@@ -128,6 +143,7 @@ fn take_leaving<N: Net, W: Watch>(
     ensures told { result ≡ true → IsMore step.entry → ⊥ }
     ensures more { result ≡ false → IsMore step.entry }
     ensures last { is_last step.entry ≡ true → is_reading (phase_at hub.new conn.0) ≡ false }
+    ensures grows { Grows (server hub.old (N.state out.old.net) (W.told out.old.watch)) (server hub.new (N.state out.new.net) (W.told out.new.watch)) }
 {
     match step {
         Step::More => false,
@@ -161,6 +177,8 @@ fn give_message<'m, N: Net, W: Watch, H: Handler>(
     ensures state { H.state handler.new ≡ H.after (H.state handler.old) (record { conn = conn.0; route = route; param = param.now; what = event.message kind body.now }) }
     ensures gives { Gives conn.0 (note.message conn.0 kind body.now) (H.said (H.state handler.new) (record { conn = conn.0; route = route; param = param.now; what = event.message kind body.now })) (server hub.old (N.state out.old.net) (W.told out.old.watch)) (server hub.new (N.state out.new.net) (W.told out.new.watch)) }
     ensures steps { Steps Every (server hub.old (N.state out.old.net) (W.told out.old.watch)) (server hub.new (N.state out.new.net) (W.told out.new.watch)) }
+    ensures grows { Grows (server hub.old (N.state out.old.net) (W.told out.old.watch)) (server hub.new (N.state out.new.net) (W.told out.new.watch)) }
+    ensures table { IsTable (table_of hub.new) }
 {
     out.watch.note(&Note::Message { conn, kind, body });
     let what = What::Message { kind, body };

@@ -9,10 +9,12 @@ mod frames;
 mod giving;
 mod intakes;
 mod reading;
+mod starting;
 mod turn;
 mod turns;
 
 pub use intakes::{Intake, Intakes};
+pub use starting::kept_at_first;
 pub use turn::{Turned, run_turn};
 pub use turns::{Ran, run};
 

@@ -1,6 +1,6 @@
 //! Reading the octets of a connection.
 
-ghost use Rattle.std.specs.Prelude.{◌≡◌, ◌≤◌, true, false, Some, length};
+ghost use Rattle.std.specs.Prelude.{◌≡◌, ◌≤◌, true, false, Some, length, ℕ, None, List, take};
 ghost use Rattle.run_meaning.specs.Settled.{is_reading};
 ghost use Rattle.frame_reader.specs.Reader.{room_of, max_of};
 ghost use Rattle.hub_lines.specs.State.{server, phase_at};
@@ -8,6 +8,12 @@ ghost use Rattle.hub_lines.specs.Calls.{Ties};
 ghost use Rattle.loop_runner.specs.Intakes.{intake_at};
 ghost use Rattle.loop_runner.specs.Ready.{IsTaken, IsAsked};
 ghost use Rattle.loop_runner.specs.Steps.{Every, But, Steps, Running, HasFrames};
+ghost use Rattle.ws_kinds.specs.ConfigValue.{ConfigValue};
+ghost use Rattle.route_table.specs.Table.{RouteTable};
+ghost use Rattle.run_kept.specs.Kept.{IntakeView};
+ghost use Rattle.loop_runner.specs.Keeps.{Grows, KeptAll, view_of, intake_view, with_view, AreViews};
+ghost use Rattle.link_trait.specs.NetState.{NetState};
+ghost use Rattle.link_trait.specs.Net.{Reads};
 
 use crate::admitting::judge_head;
 use crate::frames::read_frames;
@@ -33,6 +39,8 @@ pub(crate) fn readable<N: Net, W: Watch, H: Handler>(
     requires running { Running (But conn.0) intakes.old (server hub.old (N.state out.old.net) (W.told out.old.watch)) }
     ensures running { Running Every intakes.new (server hub.new (N.state out.new.net) (W.told out.new.watch)) }
     ensures steps { Steps (But conn.0) (server hub.old (N.state out.old.net) (W.told out.old.watch)) (server hub.new (N.state out.new.net) (W.told out.new.watch)) }
+    ensures grows { Grows (server hub.old (N.state out.old.net) (W.told out.old.watch)) (server hub.new (N.state out.new.net) (W.told out.new.watch)) }
+    ensures kept { (start : H.State) (config : ConfigValue) (views : ℕ → IntakeView) → AreViews intakes.old views → KeptAll start H.after H.said config routes.now (server hub.old (N.state out.old.net) (W.told out.old.watch)) (H.state handler.old) views None → (later : ℕ → IntakeView) × AreViews intakes.new later × KeptAll start H.after H.said config routes.now (server hub.new (N.state out.new.net) (W.told out.new.watch)) (H.state handler.new) later None }
 {
     if !is_read(hub, conn) {
         return;
@@ -73,6 +81,8 @@ fn read<N: Net, W: Watch, H: Handler>(
     ensures asked { IsAsked conn.0 (server hub.new (N.state out.new.net) (W.told out.new.watch)) }
     ensures taken { IsTaken (phase_at hub.new conn.0) intake.new.reader }
     ensures max { max_of intake.new.reader ≡ max_of intake.old.reader }
+    ensures grows { Grows (server hub.old (N.state out.old.net) (W.told out.old.watch)) (server hub.new (N.state out.new.net) (W.told out.new.watch)) }
+    ensures kept { (start : H.State) (config : ConfigValue) (views : ℕ → IntakeView) → views conn.0 ≡ intake_view intake.old → KeptAll start H.after H.said config routes.now (server hub.old (N.state out.old.net) (W.told out.old.watch)) (H.state handler.old) views None → KeptAll start H.after H.said config routes.now (server hub.new (N.state out.new.net) (W.told out.new.watch)) (H.state handler.new) (with_view conn.0 (intake_view intake.new) views) None }
 {
     let mut space = [0; MOST_OCTETS];
     let most = intake.reader.room().min(MOST_OCTETS);
@@ -105,6 +115,8 @@ fn take<N: Net, W: Watch, H: Handler>(
     ensures asked { IsAsked conn.0 (server hub.new (N.state out.new.net) (W.told out.new.watch)) }
     ensures taken { IsTaken (phase_at hub.new conn.0) intake.new.reader }
     ensures max { max_of intake.new.reader ≡ max_of intake.old.reader }
+    ensures grows { Grows (server hub.old (N.state out.old.net) (W.told out.old.watch)) (server hub.new (N.state out.new.net) (W.told out.new.watch)) }
+    ensures kept { (start : H.State) (config : ConfigValue) (views : ℕ → IntakeView) (space : List ℕ) (before : NetState) → take (length octets.now) space ≡ octets.now → Reads conn.0 space (NetRead.Octets (length octets.now)) before (N.state out.old.net) → views conn.0 ≡ intake_view intake.old → KeptAll start H.after H.said config routes.now (server hub.old before (W.told out.old.watch)) (H.state handler.old) views None → KeptAll start H.after H.said config routes.now (server hub.new (N.state out.new.net) (W.told out.new.watch)) (H.state handler.new) (with_view conn.0 (intake_view intake.new) views) None }
 {
     hub.given(out, conn, octets.len() as u64);
     intake.reader.feed(octets);
@@ -132,6 +144,8 @@ fn go_on<N: Net, W: Watch, H: Handler>(
     ensures asked { IsAsked conn.0 (server hub.new (N.state out.new.net) (W.told out.new.watch)) }
     ensures taken { IsTaken (phase_at hub.new conn.0) intake.new.reader }
     ensures max { max_of intake.new.reader ≡ max_of intake.old.reader }
+    ensures grows { Grows (server hub.old (N.state out.old.net) (W.told out.old.watch)) (server hub.new (N.state out.new.net) (W.told out.new.watch)) }
+    ensures kept { (start : H.State) (config : ConfigValue) (table : RouteTable) (views : ℕ → IntakeView) → views conn.0 ≡ intake_view intake.old → KeptAll start H.after H.said config table (server hub.old (N.state out.old.net) (W.told out.old.watch)) (H.state handler.old) views (Some conn.0) → KeptAll start H.after H.said config table (server hub.new (N.state out.new.net) (W.told out.new.watch)) (H.state handler.new) (with_view conn.0 (intake_view intake.new) views) None }
 {
     read_frames(
         hub,

@@ -1,6 +1,13 @@
 //! One turn.
 
-ghost use Rattle.std.specs.Prelude.{◌≡◌, ◌<◌, ◌≤◌, ◌^◌, ◌-◌, true, IfNone, IfSome};
+ghost use Rattle.std.specs.Prelude.{◌≡◌, ◌<◌, ◌≤◌, ◌^◌, ◌-◌, ℕ, length, None, true, IfNone, IfSome};
+ghost use Rattle.ws_kinds.specs.ConfigValue.{ConfigValue};
+ghost use Rattle.link_trait.specs.NetState.{NetState};
+ghost use Rattle.link_trait.specs.declared.net.NetEvent.{NetEvent};
+ghost use Rattle.link_trait.specs.Net.{Nexts, is_rest};
+ghost use Rattle.route_table.specs.Table.{RouteTable};
+ghost use Rattle.run_kept.specs.Kept.{IntakeView};
+ghost use Rattle.loop_runner.specs.Keeps.{Grows, KeptAll, AreViews, IsRight};
 ghost use Rattle.link_trait.specs.Link.{Rose};
 ghost use Rattle.hub_lines.specs.State.{server};
 ghost use Rattle.hub_table.specs.Table.{IsTable, table_of};
@@ -37,6 +44,10 @@ pub enum Turned {
 /// The hub and the intakes have to be ready, as they are when both are new and as this leaves them: they have the same
 /// connections and the same limit of a message's octets, the net named each of them, no frame is pending, and what came of each
 /// connection was taken. A turn ends as `Failed` only where the net counted a fault in it.
+///
+/// What is kept before the turn is kept after it (`kept`), and then the run is right (`right`): what the handler was given is what
+/// the octets say, and what each link took, with what is held, is what was sent. This is said for nets and watches that tell, and
+/// where fewer than 2^64 - 1 answers of the net and items of a connection were counted.
 pub fn run_turn<N: Net, W: Watch, H: Handler>(
     hub: &mut Hub,
     intakes: &mut Intakes,
@@ -48,6 +59,9 @@ pub fn run_turn<N: Net, W: Watch, H: Handler>(
     ensures ready { Ready intakes.new (server hub.new (N.state out.new.net) (W.told out.new.watch)) }
     ensures passed { PassesTurn result (N.state out.old.net) (N.state out.new.net) }
     ensures failed { FailsAs result (N.state out.old.net).faults (N.state out.new.net).faults }
+    ensures grows { Grows (server hub.old (N.state out.old.net) (W.told out.old.watch)) (server hub.new (N.state out.new.net) (W.told out.new.watch)) }
+    ensures kept { (start : H.State) (config : ConfigValue) (views : ℕ → IntakeView) → length (N.state out.new.net).passed < 2 ^ 64 - 1 → AreViews intakes.old views → KeptAll start H.after H.said config routes.now (server hub.old (N.state out.old.net) (W.told out.old.watch)) (H.state handler.old) views None → (later : ℕ → IntakeView) × AreViews intakes.new later × KeptAll start H.after H.said config routes.now (server hub.new (N.state out.new.net) (W.told out.new.watch)) (H.state handler.new) later None }
+    ensures right { (start : H.State) (config : ConfigValue) (views : ℕ → IntakeView) → length (N.state out.new.net).passed < 2 ^ 64 - 1 → AreViews intakes.old views → KeptAll start H.after H.said config routes.now (server hub.old (N.state out.old.net) (W.told out.old.watch)) (H.state handler.old) views None → IsRight start H.after H.said config routes.now (server hub.new (N.state out.new.net) (W.told out.new.watch)) (H.state handler.new) }
 {
     begin(hub, intakes, out, handler);
     'events: loop {
@@ -69,6 +83,8 @@ fn begin<N: Net, W: Watch, H: Handler>(
     ensures running { Running Every intakes.new (server hub.new (N.state out.new.net) (W.told out.new.watch)) }
     ensures table { IsTable (table_of hub.new) }
     ensures steps { Steps Every (server hub.old (N.state out.old.net) (W.told out.old.watch)) (server hub.new (N.state out.new.net) (W.told out.new.watch)) }
+    ensures grows { Grows (server hub.old (N.state out.old.net) (W.told out.old.watch)) (server hub.new (N.state out.new.net) (W.told out.new.watch)) }
+    ensures kept { (start : H.State) (config : ConfigValue) (table : RouteTable) (views : ℕ → IntakeView) → AreViews intakes.old views → KeptAll start H.after H.said config table (server hub.old (N.state out.old.net) (W.told out.old.watch)) (H.state handler.old) views None → (later : ℕ → IntakeView) × AreViews intakes.new later × KeptAll start H.after H.said config table (server hub.new (N.state out.new.net) (W.told out.new.watch)) (H.state handler.new) later None }
 {
     if hub.count() == 0 {
         return;
@@ -93,10 +109,12 @@ fn take_event<N: Net, W: Watch, H: Handler>(
     ensures ready { IfSome result (λ turned. Ready intakes.new (server hub.new (N.state out.new.net) (W.told out.new.watch))) }
     ensures ends { IfSome result (λ turned. PassesTurn turned (N.state out.old.net) (N.state out.new.net)) }
     ensures failed { IfSome result (λ turned. FailsAs turned (N.state out.old.net).faults (N.state out.new.net).faults) }
+    ensures grows { Grows (server hub.old (N.state out.old.net) (W.told out.old.watch)) (server hub.new (N.state out.new.net) (W.told out.new.watch)) }
+    ensures kept { (start : H.State) (config : ConfigValue) (views : ℕ → IntakeView) → length (N.state out.new.net).passed < 2 ^ 64 - 1 → AreViews intakes.old views → KeptAll start H.after H.said config routes.now (server hub.old (N.state out.old.net) (W.told out.old.watch)) (H.state handler.old) views None → (later : ℕ → IntakeView) × AreViews intakes.new later × KeptAll start H.after H.said config routes.now (server hub.new (N.state out.new.net) (W.told out.new.watch)) (H.state handler.new) later None }
 {
     match out.net.next() {
         NetEvent::Accept(conn) => {
-            arrive(hub, intakes, out, conn);
+            arrive(hub, intakes, out, handler, conn);
             close_all(hub, intakes, out, handler);
             None
         }
@@ -112,25 +130,33 @@ fn take_event<N: Net, W: Watch, H: Handler>(
             None
         }
         NetEvent::Turn => {
-            end_turn(hub, intakes, out);
+            end_turn(hub, intakes, out, handler);
             Some(Turned::Turn)
         }
         NetEvent::Stop => {
-            end_turn(hub, intakes, out);
+            end_turn(hub, intakes, out, handler);
             Some(Turned::Stop)
         }
         NetEvent::Failed => {
-            end_turn(hub, intakes, out);
+            end_turn(hub, intakes, out, handler);
             Some(Turned::Failed)
         }
     }
 }
 
 /// Ends the turn. Each connection that is no entry any more has no intake then.
-fn end_turn<N: Net, W: Watch>(hub: &mut Hub, intakes: &mut Intakes, out: &mut Outside<N, W>)
+/// The handler is not asked: it stands here for what is kept beside its state.
+fn end_turn<N: Net, W: Watch, H: Handler>(
+    hub: &mut Hub,
+    intakes: &mut Intakes,
+    out: &mut Outside<N, W>,
+    handler: &H,
+)
     requires running { Running Every intakes.old (server hub.old (N.state out.old.net) (W.told out.old.watch)) }
     ensures ready { Ready intakes.new (server hub.new (N.state out.new.net) (W.told out.new.watch)) }
     ensures steps { Steps Every (server hub.old (N.state out.old.net) (W.told out.old.watch)) (server hub.new (N.state out.new.net) (W.told out.new.watch)) }
+    ensures grows { Grows (server hub.old (N.state out.old.net) (W.told out.old.watch)) (server hub.new (N.state out.new.net) (W.told out.new.watch)) }
+    ensures kept { (start : H.State) (config : ConfigValue) (table : RouteTable) (views : ℕ → IntakeView) (answer : NetEvent) (before : NetState) → is_rest answer ≡ true → Nexts answer before (N.state out.old.net) → length before.passed < 2 ^ 64 - 1 → AreViews intakes.old views → KeptAll start H.after H.said config table (server hub.old before (W.told out.old.watch)) (H.state handler.now) views None → AreViews intakes.new views × KeptAll start H.after H.said config table (server hub.new (N.state out.new.net) (W.told out.new.watch)) (H.state handler.now) views None }
 {
     hub.end_turn(out);
     tidy(hub, intakes);

@@ -1,8 +1,12 @@
 //! Turn after turn.
 
+ghost use Rattle.std.specs.Prelude.{◌<◌, ◌^◌, ◌-◌, ℕ, length, None};
+ghost use Rattle.ws_kinds.specs.ConfigValue.{ConfigValue};
+ghost use Rattle.run_kept.specs.Kept.{IntakeView};
 ghost use Rattle.hub_lines.specs.State.{server};
 ghost use Rattle.loop_runner.specs.Ready.{Ready};
 ghost use Rattle.loop_runner.specs.Turns.{Runs};
+ghost use Rattle.loop_runner.specs.Keeps.{Grows, KeptAll, AreViews, IsRight};
 
 use crate::intakes::Intakes;
 use crate::turn::{Turned, run_turn};
@@ -24,7 +28,8 @@ pub enum Ran {
 
 /// Makes turns, until nothing will come any more, the net has a fault, or so many were made. Where `turns` is 0, none is made.
 ///
-/// The hub and the intakes have to be ready, as for [`run_turn`], and are so afterwards.
+/// The hub and the intakes have to be ready, as for [`run_turn`], and are so afterwards. What was kept before the run is kept
+/// after it (`kept`), and then the run is right (`right`), as [`run_turn`] says it of one turn.
 pub fn run<N: Net, W: Watch, H: Handler>(
     hub: &mut Hub,
     intakes: &mut Intakes,
@@ -36,6 +41,9 @@ pub fn run<N: Net, W: Watch, H: Handler>(
     requires ready { Ready intakes.old (server hub.old (N.state out.old.net) (W.told out.old.watch)) }
     ensures ready { Ready intakes.new (server hub.new (N.state out.new.net) (W.told out.new.watch)) }
     ensures runs { Runs result turns (N.state out.old.net) (N.state out.new.net) }
+    ensures grows { Grows (server hub.old (N.state out.old.net) (W.told out.old.watch)) (server hub.new (N.state out.new.net) (W.told out.new.watch)) }
+    ensures kept { (start : H.State) (config : ConfigValue) (views : ℕ → IntakeView) → length (N.state out.new.net).passed < 2 ^ 64 - 1 → AreViews intakes.old views → KeptAll start H.after H.said config routes.now (server hub.old (N.state out.old.net) (W.told out.old.watch)) (H.state handler.old) views None → (later : ℕ → IntakeView) × AreViews intakes.new later × KeptAll start H.after H.said config routes.now (server hub.new (N.state out.new.net) (W.told out.new.watch)) (H.state handler.new) later None }
+    ensures right { (start : H.State) (config : ConfigValue) (views : ℕ → IntakeView) → length (N.state out.new.net).passed < 2 ^ 64 - 1 → AreViews intakes.old views → KeptAll start H.after H.said config routes.now (server hub.old (N.state out.old.net) (W.told out.old.watch)) (H.state handler.old) views None → IsRight start H.after H.said config routes.now (server hub.new (N.state out.new.net) (W.told out.new.watch)) (H.state handler.new) }
 {
     'turns: for turn in 0..turns {
         match run_turn(hub, intakes, routes, out, handler) {
