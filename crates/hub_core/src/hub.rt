@@ -1,10 +1,10 @@
 //! The hub, and what comes for one connection.
 
-ghost use Rattle.std.specs.Prelude.{◌≡◌, ◌<◌, [], true, length, nat_eq, List, Option, IfOk, IfSome, IfNone};
+ghost use Rattle.std.specs.Prelude.{◌≡◌, ◌<◌, [], true, length, nat_eq, ℕ, List, Option, IfOk, IfSome, IfNone};
 ghost use Rattle.std.specs.Option.{option_map};
 ghost use Rattle.ws_kinds.specs.NoteValue.{NoteValue};
 ghost use Rattle.link_trait.specs.NetState.{NetState};
-ghost use Rattle.hub_lines.specs.State.{server, phase_at};
+ghost use Rattle.hub_lines.specs.State.{server, phase_at, ring_at};
 ghost use Rattle.hub_lines.specs.Lines.{held_at, held_octets};
 ghost use Rattle.hub_lines.specs.Calls.{Ties, Settled, nothing};
 ghost use Rattle.hub_notes.specs.Calls.{Appends};
@@ -129,5 +129,13 @@ impl Hub {
         ensures { result ≡ nat_eq (length self.now.entries) self.now.config.max_conns }
     {
         self.table.is_full()
+    }
+
+    /// Says that nothing is in a ring, as long as each frame is written by itself when it is put. This is a law, and calls for
+    /// nothing to be done.
+    pub fn no_rings(&self)
+        ensures { (conn : ℕ) → ring_at self.now conn ≡ [] }
+    {
+        self.table.no_rings();
     }
 }

@@ -64,7 +64,7 @@ pub becomes_entered : (g : ConfigValue) (n c i : ℕ) (xs ys : List Connection) 
 becomes_entered g n c i xs ys p k at head due e =
     let was = own_each g n xs c i k at in
     becomes_by g n c i xs ys (entered (connection_at xs i) p) (entered (connection_of xs c) p) k at (number_at xs c i at)
-    (record { first = was.first; among = was.among; config = was.config; head = λ h. absurd (head h); own = was.own; due = due })
+    (record { first = was.first; among = was.among; config = was.config; head = λ h. absurd (head h); own = was.own; due = due; ring = was.ring })
     e (ap (λ (z : Connection). entered z p) (connection_at_place xs c i at))
 
 pub becomes_parted : (g : ConfigValue) (n c i : ℕ) (xs ys : List Connection) (p : Phase) (m : Parting) → AreKept g n xs → place_of (entries_of xs) c ≡ Some i → p ≢ Head → m.conn.0 ≡ c
@@ -72,13 +72,13 @@ pub becomes_parted : (g : ConfigValue) (n c i : ℕ) (xs ys : List Connection) (
 becomes_parted g n c i xs ys p m k at head own e =
     let was = own_each g n xs c i k at in
     becomes_by g n c i xs ys (parted (connection_at xs i) p m) (parted (connection_of xs c) p m) k at (number_at xs c i at)
-    (record { first = was.first; among = was.among; config = was.config; head = λ h. absurd (head h); own = own ∙ sym (number_at xs c i at); due = λ _. refl })
+    (record { first = was.first; among = was.among; config = was.config; head = λ h. absurd (head h); own = own ∙ sym (number_at xs c i at); due = λ _. refl; ring = was.ring })
     e (ap (λ (z : Connection). parted z p m) (connection_at_place xs c i at))
 
 pub becomes_put : (g : ConfigValue) (n c i : ℕ) (xs ys : List Connection) (s : Entry) → AreKept g n xs → place_of (entries_of xs) c ≡ Some i
     → s.conn ≡ (connection_at xs i).socket.conn → s.config ≡ (connection_at xs i).socket.config → s.phase ≡ (connection_at xs i).socket.phase → (connection_at xs i).socket.phase ≢ Head
-    → ys ≡ set xs i (with_socket (connection_at xs i) s) → Becomes g n c xs ys (with_socket (connection_of xs c) s)
-becomes_put g n c i xs ys s k at conn config phase head e =
+    → s.ring ≡ [] → ys ≡ set xs i (with_socket (connection_at xs i) s) → Becomes g n c xs ys (with_socket (connection_of xs c) s)
+becomes_put g n c i xs ys s k at conn config phase head ring e =
     let was = own_each g n xs c i k at in
     becomes_by g n c i xs ys (with_socket (connection_at xs i) s) (with_socket (connection_of xs c) s) k at (conn ∙ number_at xs c i at)
     (record {
@@ -88,6 +88,7 @@ becomes_put g n c i xs ys s k at conn config phase head e =
       head = λ h. absurd (head (sym phase ∙ h));
       own = subst (λ z. IsOwn z (connection_at xs i).closed) (sym conn) was.own;
       due = λ h. was.due (ap is_gone (sym phase) ∙ h);
+      ring = ring;
     })
     e (ap (λ (z : Connection). with_socket z s) (connection_at_place xs c i at))
 
@@ -96,7 +97,7 @@ pub becomes_told : (g : ConfigValue) (n c i : ℕ) (xs ys : List Connection) →
 becomes_told g n c i xs ys k at here e =
     let was = own_each g n xs c i k at in
     becomes_by g n c i xs ys (told (connection_at xs i)) (told (connection_of xs c)) k at (number_at xs c i at)
-    (record { first = was.first; among = was.among; config = was.config; head = was.head; own = tt {0}; due = λ h. absurd (let z : false ≡ true = sym here ∙ h in cc) })
+    (record { first = was.first; among = was.among; config = was.config; head = was.head; own = tt {0}; due = λ h. absurd (let z : false ≡ true = sym here ∙ h in cc); ring = was.ring })
     e (ap told (connection_at_place xs c i at))
 
 pub becomes_forgotten : (g : ConfigValue) (n c i : ℕ) (xs ys : List Connection) → AreKept g n xs → place_of (entries_of xs) c ≡ Some i → ys ≡ remove xs i → Becomes g n c xs ys no_connection
@@ -131,7 +132,7 @@ becomes_added g n c xs ys k new room e =
     let size = length_entries xs in
     subst (AreKept g c) (sym e) (record {
       rising = subst (λ z. AreRising z) (sym (entries_added xs y)) (rising_added g n xs y.socket new k.each k.rising);
-      each = each_added g n c xs y (omega arith) (record { first = omega arith; among = omega arith; config = refl; head = λ h. refl; own = tt {0}; due = λ h. absurd (let z : false ≡ true = h in cc) }) k.each;
+      each = each_added g n c xs y (omega arith) (record { first = omega arith; among = omega arith; config = refl; head = λ h. refl; own = tt {0}; due = λ h. absurd (let z : false ≡ true = h in cc); ring = refl }) k.each;
       few = let a = length-append xs (y ∷ []) in omega arith;
     })
 

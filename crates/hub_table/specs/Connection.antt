@@ -95,6 +95,8 @@ pub record IsConnection (numbers : ConfigValue) (greatest : ℕ) (connection : C
   pub own : IsOwn connection.socket.conn connection.closed
   -- it is gone only as long as its Closed event is due
   pub due : is_gone connection.socket.phase ≡ true → is_some connection.closed ≡ true
+  -- nothing is held back for it yet
+  pub ring : connection.socket.ring ≡ []
 
 -- this holds of each of them
 abbrev pub AreConnections : ConfigValue → ℕ → List Connection → Type 0

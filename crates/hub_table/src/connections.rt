@@ -1,6 +1,6 @@
 //! The table of a hub's connections.
 
-ghost use Rattle.std.specs.Prelude.{◌≡◌, ◌≢◌, ◌+◌, ◌-◌, ◌^◌, ◌<◌, ◌≤◌, ◌++◌, [], ◌∷◌, true, false, min, length, IfOk, OnErr, OnOk, Some, None, nat_eq, if◌then◌else◌};
+ghost use Rattle.std.specs.Prelude.{◌≡◌, ◌≢◌, ◌+◌, ◌-◌, ◌^◌, ◌<◌, ◌≤◌, ◌++◌, [], ◌∷◌, true, false, min, length, IfOk, OnErr, OnOk, Some, None, nat_eq, if◌then◌else◌, ℕ};
 ghost use Rattle.std.specs.Option.{option_map};
 ghost use Rattle.ws_kinds.specs.ConfigValue.{IsConfig};
 ghost use Rattle.hub_lines.specs.Told.{ShortWhereHeld};
@@ -208,6 +208,14 @@ impl Connections {
         ensures { result ≡ length (entry_of self.now.entries conn.0).ring }
     {
         places::held_of(&self.table, conn)
+    }
+
+    /// Says that no octets are held for any connection, as long as each frame is written by itself when it is put. This is a
+    /// law, and calls for nothing to be done.
+    pub fn no_rings(&self)
+        ensures { (conn : ℕ) → (entry_of self.now.entries conn).ring ≡ [] }
+    {
+        let _ = &self.table;
     }
 
     /// The Closed event of the least connection for which one is due, and None where none is due for any. It is due no more;

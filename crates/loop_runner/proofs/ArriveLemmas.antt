@@ -1,13 +1,15 @@
 -- Connections that come.
 use Rattle.std.proofs.Common.{◌≡◌, ◌≢◌, ◌≤◌, ◌<◌, inl, ⊎_elim, ℕ, List, [], ◌∷◌, length, Option, Some, None, Bool, true, false, cond, is_some, ◌||◌, refl, sym, ap, ◌∙◌, subst, arith}
 use Rattle.std.proofs.lemmas.Bool.{cases_eq}
+use Rattle.ws_kinds.specs.declared.conn.Conn.{Conn}
 use Rattle.ws_kinds.specs.declared.note.Phase.{Phase}
 use Rattle.ws_kinds.specs.declared.note.Phase.TheVariants.{Head, Open, Leaving, Ending, Gone}
 use Rattle.ws_kinds.specs.NoteValue as note
 use Rattle.ws_kinds.specs.NoteValue.{NoteValue}
 use Rattle.ws_kinds.specs.Watch.{IsNoted}
 use Rattle.link_trait.specs.NetState.{NetState}
-use Rattle.link_trait.specs.Net.{Shuts}
+use Rattle.link_trait.specs.Net.{Nexts, Shuts}
+use Rattle.link_trait.specs.declared.net.NetEvent.TheVariants as event
 use Rattle.run_meaning.specs.Lines.{moved}
 use Rattle.run_meaning.specs.Settled.{is_reading}
 use Rattle.hub_lines.specs.Told.{is_silent}
@@ -22,6 +24,7 @@ use Rattle.hub_core.specs.Answers.{Makes, Arrives}
 use Rattle.hub_core.specs.declared.hub.Arrival.TheVariants.{Taken}
 use Rattle.hub_core.proofs.StateLemmas.{there_is_entry}
 use Rattle.hub_core.proofs.CallLemmas.{of_here, of_other}
+use Rattle.run_kept.specs.Ends.{AreThere}
 use Rattle.loop_runner.specs.declared.intakes.Intake.{Intake}
 use Rattle.loop_runner.specs.declared.intakes.Intakes.{Intakes}
 use Rattle.loop_runner.specs.Intakes.{max_of, intake_at, IsNew, ChangesIntake, SameIntakes}
@@ -73,6 +76,9 @@ steps_shut conn h a b t x gone = record {
   ties = λ ties c there. x.live_elsewhere c (other c there) ∙ ties c there;
   short = λ short. short;
   waits = λ waits c there some. x.writable_elsewhere c (other c there) ∙ waits c there some;
+  there = λ there c live. ⊎_elim
+      (λ (same : c ≡ conn). clash (b.live c) (ap b.live same ∙ x.live) live)
+      (λ (ne : c ≡ conn → ⊥). there c (sym (x.live_elsewhere c ne) ∙ live)) (cases_eq c conn);
   kept = λ c k. k;
   reading = λ c r. r;
   due = λ c _ r. x.due_elsewhere c (other c (read_present h c r));
@@ -89,6 +95,14 @@ pub steps_refused : (conn : ℕ) (n : NoteValue) (h : HubState) (a b : NetState)
 steps_refused conn n h a b t t' noted silent shuts table new =
     steps_then Every (server h a t) (server h a t') (server h b t') (steps_noted n h a t t' noted silent) (steps_shut conn h a b t' shuts (away h conn table new))
 
+-- its link was live only until it was shut
+pub there_refused : (conn : Conn) (h : HubState) (before net later : NetState) (t t' : Option (List NoteValue)) → Nexts (event.Accept conn) before net → Shuts conn.0 net later
+    → AreThere (server h before t) → AreThere (server h later t')
+there_refused conn h before net later t t' next shuts there = λ c live. ⊎_elim
+    (λ (same : c ≡ conn.0). clash (later.live c) (ap later.live same ∙ shuts.live) live)
+    (λ (ne : c ≡ conn.0 → ⊥). there c (sym (next.event.live_elsewhere c ne) ∙ sym (shuts.live_elsewhere c ne) ∙ live))
+    (cases_eq c conn.0)
+
 pub running_same : (P : ℕ → Type 0) (old new : Intakes) (s : Server) → Running P old s → SameIntakes old new → Running P new s
 running_same P old new s x same = record {
   max = x.max ∙ sym same.max;
@@ -96,6 +110,7 @@ running_same P old new s x same = record {
   ties = x.ties;
   named = x.named;
   short = x.short;
+  waits = x.waits;
   readers = λ c intake at. x.readers c intake (sym (same.all c) ∙ at) ∙ sym same.max;
   asked = x.asked;
   taken = λ c p intake at. x.taken c p intake (sym (same.all c) ∙ at);
@@ -180,6 +195,7 @@ module _ (conn : ℕ) (old new : Intakes) (a b : Server) (x : Running Every old 
     ties = ties;
     named = subst (λ (z : ℕ). z ≤ b.net.named) (sym arrives.1) (subst (λ (z : ℕ). conn ≤ z) (sym makes.advances.net.named) named);
     short = app.short x.short;
+    waits = app.waits x.waits;
     readers = λ c intake at. ⊎_elim
         (λ (same : c ≡ conn). (new_some (max_of old) (intake_at new conn) intake made (ap (intake_at new) (sym same) ∙ at)).2 ∙ sym change.max)
         (λ (ne : c ≡ conn → ⊥). x.readers c intake (sym (change.others c ne) ∙ at) ∙ sym change.max) (cases_eq c conn);

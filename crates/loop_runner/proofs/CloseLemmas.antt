@@ -6,7 +6,7 @@ use Rattle.ws_kinds.specs.declared.note.Phase.TheVariants.{Head, Open, Leaving, 
 use Rattle.ws_kinds.specs.NoteValue.{NoteValue}
 use Rattle.link_trait.specs.NetState.{NetState}
 use Rattle.run_meaning.specs.Settled.{is_reading}
-use Rattle.hub_lines.specs.State.{HubState, Entry, Server, server, PartingValue, no_entry, is_gone, entry_of, has_entry, phase_at}
+use Rattle.hub_lines.specs.State.{HubState, Entry, Server, server, PartingValue, no_entry, is_gone, is_present, entry_of, has_entry, phase_at}
 use Rattle.hub_lines.specs.Calls.{Ties, nothing}
 use Rattle.hub_notes.specs.Progress.{unless_gone, due_of, progress_at}
 use Rattle.hub_notes.specs.Calls.{Appends}
@@ -116,6 +116,9 @@ taken_kept p a b x c k =
 taken_reading : (p : PartingValue) (a b : HubState) → TakesDue (Some p) (table_of a) (table_of b) → (c : ℕ) → is_reading (phase_at b c) ≡ true → is_reading (phase_at a c) ≡ true
 taken_reading p a b x c r = reading_at a c ∙ ap is_reading (sym (taken_phase p a b x c)) ∙ sym (reading_at b c) ∙ r
 
+taken_present : (p : PartingValue) (a b : HubState) → TakesDue (Some p) (table_of a) (table_of b) → (c : ℕ) → is_present b c ≡ is_present a c
+taken_present p a b x c = there_by (entry_of b.entries c).phase ∙ ap is_some (taken_phase p a b x c) ∙ sym (there_by (entry_of a.entries c).phase)
+
 pub steps_taken : (p : PartingValue) (a b : HubState) (net : NetState) (t : Option (List NoteValue)) → TakesDue (Some p) (table_of a) (table_of b) → Appends nothing (server a net t) (server b net t) → (Ties (server a net t) → Ties (server b net t))
     → Steps Every (server a net t) (server b net t)
 steps_taken p a b net t x app ties = record {
@@ -129,6 +132,7 @@ steps_taken p a b net t x app ties = record {
   ties = ties;
   short = app.short;
   waits = app.waits;
+  there = λ there c live. taken_present p a b x c ∙ there c live;
   kept = taken_kept p a b x;
   reading = taken_reading p a b x;
   due = λ c _ r. refl;
@@ -161,6 +165,9 @@ none_due (first ∷ rest) due c kept e k = absurd (omega arith)
 pub none_taken : (a : HubState) → IsTable (table_of a) → length a.entries ≡ 0 → TakesDue None (table_of a) (table_of a)
 none_taken a table none = (refl, λ c. none_due a.entries (due_of a.partings c) c (is_gone (entry_of a.entries c).phase) none (table.kept c))
 
+pub none_entries : (a : HubState) → IsTable (table_of a) → length a.entries ≡ 0 → (c : ℕ) → due_of a.partings c ≡ None
+none_entries a table none = (none_taken a table none).1
+
 -- ---- intakes that are shut
 
 some_of : (x : Option Intake) → is_some x ≡ true → x ≡ None → ⊥
@@ -179,6 +186,7 @@ running_shut conn old new s x change none away = record {
   ties = x.ties;
   named = x.named;
   short = x.short;
+  waits = x.waits;
   readers = λ c intake at. ⊎_elim
       (λ (same : c ≡ conn). absurd (none_some (intake_at new conn) intake none (ap (intake_at new) (sym same) ∙ at)))
       (λ (ne : c ≡ conn → ⊥). x.readers c intake (sym (change.others c ne) ∙ at) ∙ sym change.max) (cases_eq c conn);
@@ -199,6 +207,7 @@ running_tidied P old new s x table exact max same =
       ties = x.ties;
       named = x.named;
       short = x.short;
+      waits = x.waits;
       readers = λ c intake at. x.readers c intake (was c intake at) ∙ sym max;
       asked = x.asked;
       taken = λ c p intake at. x.taken c p intake (was c intake at);

@@ -6,6 +6,7 @@ use Rattle.ws_kinds.specs.NoteValue.{NoteValue}
 use Rattle.ws_kinds.specs.OrderValue.{OrderValue, send}
 use Rattle.ws_kinds.specs.Watch.{IsNoted}
 use Rattle.link_trait.specs.NetState.{NetState}
+use Rattle.link_trait.specs.Net.{SameNet}
 use Rattle.run_meaning.specs.Orders.{why_send}
 use Rattle.hub_lines.specs.State.{HubState, Server, server, phase_at}
 use Rattle.hub_notes.specs.Noted.{AreNoted}
@@ -42,6 +43,7 @@ told_before None None ms is after e = absurd cc
 pub grows_same : (s : Server) → Grows s s
 grows_same s = record {
   tells = refl;
+  schedule = refl;
   told = λ after e. (after, [], e, behind_none after);
   given = λ t c. ([], behind_none (s.net.given c));
 }
@@ -49,6 +51,7 @@ grows_same s = record {
 pub grows_then : (a b d : Server) → Grows a b → Grows b d → Grows a d
 grows_then a b d x y = record {
   tells = y.tells ∙ x.tells;
+  schedule = y.schedule ∙ x.schedule;
   told = λ after e.
       let v = y.told after e in
       let u = x.told v.0 v.2 in
@@ -60,11 +63,11 @@ grows_then a b d x y = record {
 }
 
 -- notes, beside a net of which more was read
-pub grows_told : (ms : List NoteValue) (a b : Server) → AreNoted a.told ms b.told → b.net.tells ≡ a.net.tells → (a.net.tells ≡ true → Longer a.net b.net) → Grows a b
-grows_told ms a b is tells longer = record { tells = tells; told = told_before a.told b.told ms is; given = longer }
+pub grows_told : (ms : List NoteValue) (a b : Server) → AreNoted a.told ms b.told → SameNet a.net b.net → (a.net.tells ≡ true → Longer a.net b.net) → Grows a b
+grows_told ms a b is same longer = record { tells = same.tells; schedule = same.schedule; told = told_before a.told b.told ms is; given = longer }
 
 pub grows_net : (ms : List NoteValue) (a b : Server) → AreNoted a.told ms b.told → NetAfter ms a.net b.net → Grows a b
-grows_net ms a b is net = grows_told ms a b is net.net.tells (λ t c. ([], (net.told t).given c ∙ behind_none (a.net.given c)))
+grows_net ms a b is net = grows_told ms a b is net.net (λ t c. ([], (net.told t).given c ∙ behind_none (a.net.given c)))
 
 pub grows_advances : (ms : List NoteValue) (a b : Server) → Advances ms a b → Grows a b
 grows_advances ms a b x = grows_net ms a b x.told x.net
@@ -77,12 +80,13 @@ grows_proceeds first last a b x = grows_advances (first ++ (x.sending ++ last)) 
 
 -- one note, and the same net
 pub grows_noted : (n : NoteValue) (h g : HubState) (net : NetState) (t t' : Option (List NoteValue)) → IsNoted t n t' → Grows (server h net t) (server g net t')
-grows_noted n h g net t t' is = grows_told (n ∷ []) (server h net t) (server g net t') (told_one t t' n is) refl (λ _ c. ([], behind_none (net.given c)))
+grows_noted n h g net t t' is = grows_told (n ∷ []) (server h net t) (server g net t') (told_one t t' n is) (record { tells = refl; schedule = refl }) (λ _ c. ([], behind_none (net.given c)))
 
 -- no note, and the same net
 pub grows_hub : (h g : HubState) (net : NetState) (t : Option (List NoteValue)) → Grows (server h net t) (server g net t)
 grows_hub h g net t = record {
   tells = refl;
+  schedule = refl;
   told = λ after e. (after, [], e, behind_none after);
   given = λ _ c. ([], behind_none (net.given c));
 }

@@ -14,7 +14,7 @@ use Rattle.hub_lines.specs.State.{Server}
 use Rattle.run_kept.specs.Kept.{IntakeView}
 use Rattle.loop_runner.specs.Keeps.{Grows, Holds, KeptAll, AreFew}
 
-few_before : {S : Type 0} (r : run.Server S) (ns later ms : List NoteValue) → ms ≡ ns ++ later → AreFew r ms → AreFew r ns
+pub few_before : {S : Type 0} (r : run.Server S) (ns later ms : List NoteValue) → ms ≡ ns ++ later → AreFew r ms → AreFew r ns
 few_before r ns later ms whole few = λ front behind is c.
     few front (behind ++ later) (whole ∙ ap (λ (z : List NoteValue). z ++ later) is ∙ append_assoc front behind later) c
 
@@ -49,3 +49,16 @@ module _ {S : Type 0} (start : S) (after : S → EventValue → S) (said : S →
       (old before.0 before.2 was replies
       (replies_before table before.0 before.1 a.net.given b.net.given replies (subst (λ (z : List NoteValue). AreReplies table z b.net.given replies) before.3 agree) (grows.given was))
       were)
+
+  -- what was kept of an earlier server, for notes and replies of a later one
+  pub kept_before : (a b : Server) (now : S) (views : ℕ → IntakeView) (reading : Option ℕ) → Grows a b → KeptAll start after said config table a now views reading
+      → (replies : ℕ → List ℕ) (ms : List NoteValue) → b.told ≡ Some ms → b.net.tells ≡ true → AreReplies table ms b.net.given replies → AreFew (served_by start after said replies) ms
+      → (ns : List NoteValue) × Holds start after said replies config table ns a now views reading
+  kept_before a b now views reading grows old replies ms told tells agree few =
+      let before = grows.told ms told in
+      let was : a.net.tells ≡ true = sym grows.tells ∙ tells in (
+        before.0,
+        old before.0 before.2 was replies
+            (replies_before table before.0 before.1 a.net.given b.net.given replies (subst (λ (z : List NoteValue). AreReplies table z b.net.given replies) before.3 agree) (grows.given was))
+            (few_before (served_by start after said replies) before.0 before.1 ms before.3 few),
+      )

@@ -8,6 +8,7 @@ pub mod RunningLemmas
 pub mod TidyLemmas
 pub mod CloseLemmas
 pub mod ArriveLemmas
+pub mod AnswerLemmas
 pub mod TurnLemmas
 pub mod GrowLemmas
 pub mod KeepLemmas
@@ -17,3 +18,4 @@ pub mod ReadKeepLemmas
 pub mod CloseKeepLemmas
 pub mod TurnKeeps
 pub mod RightLemmas
+pub mod ThroughoutLemmas

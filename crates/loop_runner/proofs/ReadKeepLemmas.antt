@@ -65,6 +65,7 @@ gives_behind read.Later space xs ys e = same_behind xs ys e
 pub grows_read : (conn : ℕ) (space : List ℕ) (result : NetRead) (h : HubState) (net late : NetState) (t : Option (List NoteValue)) → Reads conn space result net late → Grows (server h net t) (server h late t)
 grows_read conn space result h net late t rd = record {
   tells = rd.net.tells;
+  schedule = rd.net.schedule;
   told = λ ms e. (ms, [], e, none_behind ms);
   given = λ tells c. ⊎_elim
       (λ (e : c ≡ conn). subst (λ (z : ℕ). (behind : List ℕ) × (late.given z ≡ net.given z ++ behind)) (sym e) (gives_behind result space (net.given conn) (late.given conn) (rd.told tells).given))

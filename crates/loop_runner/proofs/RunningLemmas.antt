@@ -25,6 +25,7 @@ use Rattle.hub_notes.specs.Calls.{Advances}
 use Rattle.hub_notes.proofs.BoolLemmas.{by_cases, clash}
 use Rattle.hub_core.specs.Answers.{Makes}
 use Rattle.hub_core.proofs.CallLemmas.{of_here}
+use Rattle.run_kept.proofs.EndLemmas.{there_same}
 use Rattle.loop_runner.specs.declared.intakes.Intake.{Intake}
 use Rattle.loop_runner.specs.declared.intakes.Intakes.{Intakes}
 use Rattle.loop_runner.specs.Intakes.{max_of, intake_at, is_admitted}
@@ -47,6 +48,7 @@ running_steps P intakes a b x s = record {
   ties = s.ties x.ties;
   named = subst (λ (z : ℕ). z ≤ b.net.named) (sym s.named) (subst (λ (z : ℕ). a.hub.named ≤ z) (sym s.net_named) x.named);
   short = s.short x.short;
+  waits = s.waits x.waits;
   readers = x.readers;
   asked = λ c p r. s.due c p r ∙ x.asked c p (s.reading c r);
   taken = λ c p intake at. taken_as (phase_at a.hub c) (phase_at b.hub c) intake.reader (s.phase c p) (x.taken c p intake at);
@@ -61,6 +63,7 @@ running_all conn intakes s x asked taken = record {
   ties = x.ties;
   named = x.named;
   short = x.short;
+  waits = x.waits;
   readers = x.readers;
   asked = λ c _. ⊎_elim (λ (same : c ≡ conn). subst (λ (z : ℕ). IsAsked z s) (sym same) asked) (λ (ne : c ≡ conn → ⊥). x.asked c ne) (cases_eq c conn);
   taken = λ c _ intake at. ⊎_elim
@@ -75,6 +78,7 @@ running_but conn intakes s x = record {
   ties = x.ties;
   named = x.named;
   short = x.short;
+  waits = x.waits;
   readers = x.readers;
   asked = λ c _. x.asked c (tt {0});
   taken = λ c _. x.taken c (tt {0});
@@ -115,6 +119,7 @@ running_written conn old new was now s x max written at same asked taken =
       ties = x.ties;
       named = x.named;
       short = x.short;
+      waits = x.waits;
       readers = λ c intake is. ⊎_elim
           (λ (e : c ≡ conn). ap (λ (z : Intake). reader.max_of z.reader) (same_some intake now (sym is ∙ ap (intake_at new) e ∙ here)) ∙ same ∙ x.readers conn was at ∙ sym max)
           (λ (ne : c ≡ conn → ⊥). x.readers c intake (sym (there c ne) ∙ is) ∙ sym max) (cases_eq c conn);
@@ -170,6 +175,7 @@ steps_read conn space result h a b t x = record {
   ties = λ ties c there. x.live c ∙ ties c there;
   short = λ short. short;
   waits = λ waits c there some. x.writable c ∙ waits c there some;
+  there = there_same (server h a t) b x.live;
   kept = λ c k. k;
   reading = λ c r. r;
   due = λ c ne r. x.due_elsewhere c ne;

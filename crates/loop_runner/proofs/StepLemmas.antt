@@ -30,6 +30,7 @@ use Rattle.hub_notes.proofs.CallLemmas.{advances_then, advances_same}
 use Rattle.hub_core.specs.Answers.{Makes}
 use Rattle.hub_core.specs.Orders.{Sends, Refuses, ServesSend, Serves, ServesAll}
 use Rattle.hub_core.proofs.SentLemmas.{short_still}
+use Rattle.run_kept.proofs.EndLemmas.{there_after}
 use Rattle.loop_runner.specs.Steps.{Every, But, Rises, Steps}
 use Rattle.loop_runner.proofs.ProgressLemmas.{begins, begins_of, reads_after, was_after, kept_after, weight_after, reading_at}
 
@@ -109,6 +110,7 @@ steps_of P ns f a b adv faults app ties named calm u = record {
   ties = λ _. ties;
   short = app.short;
   waits = app.waits;
+  there = there_after ns a b adv;
   kept = λ c. kept_after c ns a.hub b.hub (adv.progress c) u;
   reading = λ c. was_after c ns a.hub b.hub (adv.progress c) u;
   due = λ c _ r. adv.net.due c (present_is_not_gone ns c a b adv (unaccepted ns c u) (read_present b.hub c r));
@@ -150,6 +152,7 @@ steps_same P s = record {
   ties = λ t. t;
   short = λ t. t;
   waits = λ t. t;
+  there = λ t. t;
   kept = λ c k. k;
   reading = λ c r. r;
   due = λ c p r. refl;
@@ -169,6 +172,7 @@ steps_then P a b d x y = record {
   ties = λ t. y.ties (x.ties t);
   short = λ t. y.short (x.short t);
   waits = λ t. y.waits (x.waits t);
+  there = λ t. y.there (x.there t);
   kept = λ c k. x.kept c (y.kept c k);
   reading = λ c r. x.reading c (y.reading c r);
   due = λ c p r. y.due c p r ∙ x.due c p (y.reading c r);
@@ -188,6 +192,7 @@ steps_but conn a b x = record {
   ties = x.ties;
   short = x.short;
   waits = x.waits;
+  there = x.there;
   kept = x.kept;
   reading = x.reading;
   due = λ c p r. x.due c (tt {0}) r;
@@ -210,6 +215,7 @@ steps_noted n h net t t' noted silent = record {
   ties = λ ties. ties;
   short = λ short c there. short_silent c (ring_at h c) t t' n noted (silent c) (short c there);
   waits = λ waits. waits;
+  there = λ there. there;
   kept = λ c k. k;
   reading = λ c r. r;
   due = λ c p r. refl;
@@ -301,6 +307,7 @@ steps_served from number orders a b x ties named =
       ties = λ _. ties;
       short = q.short;
       waits = q.waits;
+      there = there_after q.notes a b q.advances;
       kept = λ c. kept_after c q.notes a.hub b.hub (q.advances.progress c) (accepts_none q.notes q.none);
       reading = λ c. was_after c q.notes a.hub b.hub (q.advances.progress c) (accepts_none q.notes q.none);
       due = λ c _ r. q.advances.net.due c (present_is_not_gone q.notes c a b q.advances (unaccepted q.notes c (accepts_none q.notes q.none)) (read_present b.hub c r));

@@ -1,5 +1,5 @@
 -- What is kept where a connection comes, and as a turn ends.
-use Rattle.std.proofs.Common.{◌≡◌, ◌≢◌, ◌<◌, ◌^◌, ◌-◌, inl, inr, ⊎_elim, ℕ, List, [], ◌∷◌, ◌++◌, length, Option, Some, None, Bool, true, false, cond, is_some, nat_eq, nat_lt, if◌then◌else◌, refl, sym, ap, ◌∙◌, subst, arith, length-append}
+use Rattle.std.proofs.Common.{◌≡◌, ◌≢◌, ◌<◌, ◌^◌, ◌-◌, ⊎_elim, ℕ, List, [], ◌∷◌, ◌++◌, length, take, Option, Some, None, Bool, true, false, cond, is_some, nat_eq, nat_lt, if◌then◌else◌, refl, sym, ap, ◌∙◌, subst, arith, length-append}
 use Rattle.std.proofs.lemmas.Bool.{cases_eq}
 use Rattle.std.proofs.lemmas.Bool.Decides.{nat_tests}
 use Rattle.ws_kinds.specs.declared.conn.Conn.{Conn}
@@ -56,13 +56,14 @@ use Rattle.loop_runner.proofs.GrowLemmas.{behind_none, grows_then, grows_makes, 
 use Rattle.loop_runner.proofs.KeepLemmas.{keep_on, keep_few, few_of}
 use Rattle.hub_notes.proofs.BoolLemmas.{by_cases, clash}
 use Rattle.loop_runner.specs.declared.turn.Turned.{Turned}
-use Rattle.loop_runner.specs.Turns.{ending, GrowsBetween, GrowsTurn, PassesBetween, PassesTurn}
+use Rattle.loop_runner.specs.Turns.{ending, GrowsBy, PassesBetween, PassesTurn}
 
 -- ---- what grows
 
 pub grows_next : (answer : NetEvent) (h : HubState) (a b : NetState) (t : Option (List NoteValue)) → Nexts answer a b → Grows (server h a t) (server h b t)
 grows_next answer h a b t n = record {
   tells = n.net.tells;
+  schedule = n.net.schedule;
   told = λ after e. (after, [], e, behind_none after);
   given = λ told c. ([], (n.told told).traffic.given c ∙ behind_none (a.given c));
 }
@@ -70,6 +71,7 @@ grows_next answer h a b t n = record {
 pub grows_shut : (conn : ℕ) (h : HubState) (a b : NetState) (t : Option (List NoteValue)) → Shuts conn a b → Grows (server h a t) (server h b t)
 grows_shut conn h a b t n = record {
   tells = n.net.tells;
+  schedule = n.net.schedule;
   told = λ after e. (after, [], e, behind_none after);
   given = λ told c. ([], (n.told told).traffic.given c ∙ behind_none (a.given c));
 }
@@ -377,19 +379,14 @@ pub few_makes : (ms : List NoteValue) (a b : Server) → Makes ms a b → a.net.
 few_makes ms a b x t few = subst (λ (z : List NetEvent). length z < 2 ^ 64 - 1) (x.advances.net.told t).passed few
 
 -- the count of answers did not fall
-few_between : (old new : List NetEvent) → GrowsBetween old new → length new < 2 ^ 64 - 1 → length old < 2 ^ 64 - 1
-few_between old new (inl (xs, p, e)) few = let l = ap length e ∙ length-append old xs in omega arith
-few_between old new (inr full) few = absurd (omega arith)
-
-few_ending : (end : Turned) (old new : List NetEvent) → GrowsTurn end old new → length new < 2 ^ 64 - 1 → length old < 2 ^ 64 - 1
-few_ending end old new (inl (xs, p, e)) few = let l = ap length e ∙ length-append old (xs ++ ending end ∷ []) in omega arith
-few_ending end old new (inr full) few = absurd (omega arith)
+few_grown : (answers old new : List NetEvent) → GrowsBy answers old new → length new < 2 ^ 64 - 1 → length old < 2 ^ 64 - 1
+few_grown answers old new grows few = let l = ap length grows ∙ length-append old (take (2 ^ 64 - 1 - length old) answers) in omega arith
 
 pub few_passes : (a b : NetState) → PassesBetween a b → a.tells ≡ true → length b.passed < 2 ^ 64 - 1 → length a.passed < 2 ^ 64 - 1
-few_passes a b x t few = few_between a.passed b.passed (x.told t) few
+few_passes a b x t few = few_grown (x.told t).0 a.passed b.passed (x.told t).2 few
 
 pub few_turned : (end : Turned) (a b : NetState) → PassesTurn end a b → a.tells ≡ true → length b.passed < 2 ^ 64 - 1 → length a.passed < 2 ^ 64 - 1
-few_turned end a b x t few = few_ending end a.passed b.passed (x.told t) few
+few_turned end a b x t few = few_grown ((x.told t).0 ++ ending end ∷ []) a.passed b.passed (x.told t).2 few
 
 -- views of these intakes
 or_view : Option Intake → IntakeView → IntakeView

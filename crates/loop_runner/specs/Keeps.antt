@@ -1,6 +1,7 @@
 -- What each step of the loop keeps: the server is as its notes say, for all texts of replies that agree with the judging.
-use Rattle.std.specs.Prelude.{◌≡◌, ◌<◌, ◌-◌, ◌^◌, ℕ, List, ◌++◌, Option, Some, true, nat_eq, length, if◌then◌else◌}
+use Rattle.std.specs.Prelude.{◌≡◌, ◌<◌, ◌-◌, ◌^◌, ℕ, List, [], ◌∷◌, ◌++◌, Option, Some, true, nat_eq, length, if◌then◌else◌}
 use Rattle.ws_kinds.specs.ConfigValue.{ConfigValue}
+use Rattle.ws_kinds.specs.NoteValue as note
 use Rattle.ws_kinds.specs.NoteValue.{NoteValue}
 use Rattle.ws_kinds.specs.EventValue.{EventValue}
 use Rattle.ws_kinds.specs.OrderValue.{OrderValue}
@@ -10,6 +11,8 @@ use Rattle.run_meaning.specs.Server as run
 use Rattle.run_meaning.specs.Server.{served_by}
 use Rattle.run_meaning.specs.Lines.{plain}
 use Rattle.run_meaning.specs.Replies.{AreReplies}
+use Rattle.run_meaning.specs.Settled.{Settled}
+use Rattle.run_meaning.specs.Life.{LivedThroughout}
 use Rattle.run_meaning.specs.Right.{Right}
 use Rattle.hub_lines.specs.State.{Server}
 use Rattle.hub_table.specs.Table.{IsTable, table_of}
@@ -34,9 +37,10 @@ AreViews intakes views = (conn : ℕ) (intake : Intake) → intake_at intakes co
 abbrev pub with_view : ℕ → IntakeView → (ℕ → IntakeView) → ℕ → IntakeView
 with_view conn view views other = if nat_eq other conn then view else views other
 
--- The notes only grow, and so does what was read of each connection, where net and watch tell.
+-- The notes only grow, and so does what was read of each connection, where net and watch tell; the net's schedule stays.
 pub record Grows (old new : Server) : Type 0 where
   pub tells : new.net.tells ≡ old.net.tells
+  pub schedule : new.net.schedule ≡ old.net.schedule
   pub told : (after : List NoteValue) → new.told ≡ Some after → (notes : List NoteValue) × (later : List NoteValue) × (old.told ≡ Some notes) × (after ≡ notes ++ later)
   pub given : old.net.tells ≡ true → (conn : ℕ) → (behind : List ℕ) × (new.net.given conn ≡ old.net.given conn ++ behind)
 
@@ -63,3 +67,21 @@ abbrev pub IsRight : {State : Type 0} → State → (State → EventValue → St
 IsRight start after said config table s now = (notes : List NoteValue) → s.told ≡ Some notes → s.net.tells ≡ true
     → (replies : ℕ → List ℕ) → AreReplies table notes s.net.given replies → AreFew (served_by start after said replies) notes
     → Right (served_by start after said replies) config table notes s.net now (backlog_at s.hub)
+
+-- The same of what is settled after a turn: no frame waits, and what is held is what the links of those who are not gone did not
+-- take.
+abbrev pub IsSettled : {State : Type 0} → State → (State → EventValue → State) → (State → EventValue → List OrderValue) → ConfigValue → RouteTable → Server → Type 0
+IsSettled start after said config table s = (notes : List NoteValue) → s.told ≡ Some notes → s.net.tells ≡ true
+    → (replies : ℕ → List ℕ) → AreReplies table notes s.net.given replies → AreFew (served_by start after said replies) notes
+    → Settled (served_by start after said replies) notes s.net (record { pending = 0; gathered = []; backlog = backlog_at s.hub })
+
+-- Where net and watch tell, and where items are few: at the end of each turn so far, what was heard of each connection is what the
+-- octets say that were read until then, for all texts of replies that agree with the judging.
+abbrev pub IsLivedThroughout : {State : Type 0} → State → (State → EventValue → State) → (State → EventValue → List OrderValue) → ConfigValue → RouteTable → Server → Type 0
+IsLivedThroughout start after said config table s = (notes : List NoteValue) → s.told ≡ Some notes → s.net.tells ≡ true
+    → (replies : ℕ → List ℕ) → AreReplies table notes s.net.given replies → AreFew (served_by start after said replies) notes
+    → LivedThroughout (served_by start after said replies) table config.max_message notes s.net.given
+
+-- where the watch tells, its last note says that a turn ended
+abbrev pub EndsWithTurn : Option (List NoteValue) → Type 0
+EndsWithTurn told = (notes : List NoteValue) → told ≡ Some notes → (front : List NoteValue) × (notes ≡ front ++ note.turn ∷ [])

@@ -8,6 +8,7 @@ use Rattle.frame_reader.specs.Reader as reader
 use Rattle.frame_reader.specs.Reader.{raw_of, ahead, has_ended, is_unread}
 use Rattle.hub_lines.specs.State.{Server, has_entry, phase_at}
 use Rattle.hub_lines.specs.Calls.{Ties, Settled, ShortRings}
+use Rattle.hub_notes.specs.Fronts.{RingsWait}
 use Rattle.loop_runner.specs.declared.intakes.Intake.{Intake}
 use Rattle.loop_runner.specs.declared.intakes.Intakes.{Intakes}
 use Rattle.loop_runner.specs.Intakes.{max_of, intake_at, is_admitted}
@@ -37,6 +38,7 @@ pub record Ready (intakes : Intakes) (s : Server) : Type 0 where
   pub named : s.hub.named ≤ s.net.named
   pub settled : Settled s.hub
   pub short : ShortRings s
+  pub waits : RingsWait s
   pub asked : (conn : ℕ) → IsAsked conn s
   pub readers : (conn : ℕ) (intake : Intake) → intake_at intakes conn ≡ Some intake → reader.max_of intake.reader ≡ max_of intakes
   pub taken : (conn : ℕ) (intake : Intake) → intake_at intakes conn ≡ Some intake → IsTaken (phase_at s.hub conn) intake.reader

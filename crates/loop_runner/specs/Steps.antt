@@ -16,6 +16,7 @@ use Rattle.hub_notes.specs.Progress.{Progress, progress_at}
 use Rattle.hub_notes.specs.Fronts.{RingsWait}
 use Rattle.hub_table.specs.Table.{is_kept}
 use Rattle.hub_core.specs.Orders.{ServesAll}
+use Rattle.run_kept.specs.Ends.{AreThere}
 use Rattle.loop_runner.specs.declared.intakes.Intake.{Intake}
 use Rattle.loop_runner.specs.declared.intakes.Intakes.{Intakes}
 use Rattle.loop_runner.specs.Intakes.{max_of, intake_at, is_admitted}
@@ -60,6 +61,8 @@ pub record Steps (P : ℕ → Type 0) (old new : Server) : Type 0 where
   pub ties : Ties old → Ties new
   pub short : ShortRings old → ShortRings new
   pub waits : RingsWait old → RingsWait new
+  -- where each live link was that of an entry which is not gone, it is so
+  pub there : AreThere old → AreThere new
   -- nobody becomes an entry, and nobody becomes one that is read
   pub kept : (conn : ℕ) → is_kept_at new.hub conn ≡ true → is_kept_at old.hub conn ≡ true
   pub reading : (conn : ℕ) → is_reading (phase_at new.hub conn) ≡ true → is_reading (phase_at old.hub conn) ≡ true
@@ -88,6 +91,7 @@ pub record Running (P : ℕ → Type 0) (intakes : Intakes) (s : Server) : Type 
   pub ties : Ties s
   pub named : s.hub.named ≤ s.net.named
   pub short : ShortRings s
+  pub waits : RingsWait s
   pub readers : (conn : ℕ) (intake : Intake) → intake_at intakes conn ≡ Some intake → reader.max_of intake.reader ≡ max_of intakes
   pub asked : (conn : ℕ) → P conn → IsAsked conn s
   pub taken : (conn : ℕ) → P conn → (intake : Intake) → intake_at intakes conn ≡ Some intake → IsTaken (phase_at s.hub conn) intake.reader

@@ -10,6 +10,7 @@ ghost use Rattle.link_trait.specs.declared.net.NetEvent.TheVariants as answer;
 ghost use Rattle.link_trait.specs.Net.{Nexts};
 ghost use Rattle.route_table.specs.Table.{RouteTable};
 ghost use Rattle.run_kept.specs.Kept.{IntakeView};
+ghost use Rattle.run_kept.specs.Ends.{AreThere};
 ghost use Rattle.loop_runner.specs.Keeps.{Grows, KeptAll, AreViews};
 ghost use Rattle.hub_lines.specs.State.{server};
 ghost use Rattle.hub_table.specs.Table.{IsTable, table_of};
@@ -38,6 +39,7 @@ pub(crate) fn arrive<N: Net, W: Watch, H: Handler>(
     requires running { Running Every intakes.old (server hub.old (N.state out.old.net) (W.told out.old.watch)) }
     ensures running { Running Every intakes.new (server hub.new (N.state out.new.net) (W.told out.new.watch)) }
     ensures onward { Onward (server hub.old (N.state out.old.net) (W.told out.old.watch)) (server hub.new (N.state out.new.net) (W.told out.new.watch)) }
+    ensures there { (before : NetState) → Nexts (answer.Accept conn) before (N.state out.old.net) → AreThere (server hub.old before (W.told out.old.watch)) → AreThere (server hub.new (N.state out.new.net) (W.told out.new.watch)) }
     ensures grows { Grows (server hub.old (N.state out.old.net) (W.told out.old.watch)) (server hub.new (N.state out.new.net) (W.told out.new.watch)) }
     ensures kept { (start : H.State) (config : ConfigValue) (table : RouteTable) (views : ℕ → IntakeView) (before : NetState) → Nexts (answer.Accept conn) before (N.state out.old.net) → length before.passed < 2 ^ 64 - 1 → AreViews intakes.old views → KeptAll start H.after H.said config table (server hub.old before (W.told out.old.watch)) (H.state handler.now) views None → (later : ℕ → IntakeView) × AreViews intakes.new later × KeptAll start H.after H.said config table (server hub.new (N.state out.new.net) (W.told out.new.watch)) (H.state handler.now) later None }
 {

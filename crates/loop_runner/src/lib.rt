@@ -14,7 +14,7 @@ mod turn;
 mod turns;
 
 pub use intakes::{Intake, Intakes};
-pub use starting::kept_at_first;
+pub use starting::{kept_at_first, lived_at_first};
 pub use turn::{Turned, run_turn};
 pub use turns::{Ran, run};
 

@@ -6,7 +6,7 @@ ghost use Rattle.route_table.specs.Table.{RouteTable};
 ghost use Rattle.hub_lines.specs.State.{Server};
 ghost use Rattle.hub_table.specs.Table.{IsTable, table_of};
 ghost use Rattle.run_kept.specs.Kept.{IntakeView};
-ghost use Rattle.loop_runner.specs.Keeps.{KeptAll};
+ghost use Rattle.loop_runner.specs.Keeps.{KeptAll, IsLivedThroughout};
 
 use ws_kinds::Handler;
 
@@ -15,4 +15,10 @@ use ws_kinds::Handler;
 pub fn kept_at_first<H: Handler>()
     ensures { (start : H.State) (config : ConfigValue) (table : RouteTable) (s : Server) (now : H.State) (views : ℕ → IntakeView) → s.hub.entries ≡ [] → s.hub.partings ≡ [] → s.hub.config ≡ config → IsTable (table_of s.hub) →
         s.told ≡ Some [] → s.net.passed ≡ [] → now ≡ start → KeptAll start H.after H.said config table s now views None }
+{}
+
+/// A watch that noted nothing has told of no turn that ended; so the first turn's condition on what was heard at the end of each
+/// turn holds.
+pub fn lived_at_first<H: Handler>()
+    ensures { (start : H.State) (config : ConfigValue) (table : RouteTable) (s : Server) → s.told ≡ Some [] → IsLivedThroughout start H.after H.said config table s }
 {}

@@ -179,6 +179,28 @@ fn run_with<H: Handler>(
     Ok((out, ran))
 }
 
+/// Makes three turns with one route over a schedule, each by itself.
+fn three_turns_with<H: Handler>(
+    rt: &HostRuntime,
+    handler: &mut H,
+    schedule: Schedule,
+) -> Result<(Outside<MemNet, Recorder>, [Turned; 3]), Fail> {
+    let config = Config::usual();
+    let mut hub = Hub::new(rt.alloc(), config).ok().ok_or("memory")?;
+    let mut intakes = Intakes::new(rt.alloc(), config.max_message());
+    let mut routes = Routes::new(rt.alloc());
+    routes.add("/echo", b"").ok().ok_or("the route")?;
+    let mut out = Outside {
+        net: follow(rt, schedule)?,
+        watch: Recorder::new(rt.alloc()),
+        tally: Tally::new(),
+    };
+    let first = run_turn(&mut hub, &mut intakes, &routes, &mut out, handler);
+    let second = run_turn(&mut hub, &mut intakes, &routes, &mut out, handler);
+    let third = run_turn(&mut hub, &mut intakes, &routes, &mut out, handler);
+    Ok((out, [first, second, third]))
+}
+
 /// Checks that these notes were told and no others.
 fn expect_notes(rt: &impl Abort, watch: &Recorder, notes: &[Note<'_>]) {
     assert!(rt; watch.whole());
@@ -405,8 +427,8 @@ fn a_handler_keeps_its_state_between_turns(rt: HostRuntime) -> Result<(), Fail> 
     push(&mut schedule, octets(&rt, ONE, HELLO)?)?;
     // The Opened event is the first one: it and the second message are those at which messages are sent.
     let mut handler = EverySecond { sends: false };
-    let (out, ran) = run_with(&rt, &mut handler, 2, schedule, 9)?;
-    assert_eq!(rt; ran, Ran::Stopped(3));
+    let (out, turned) = three_turns_with(&rt, &mut handler, schedule)?;
+    assert_eq!(rt; turned, [Turned::Turn, Turned::Turn, Turned::Stop]);
     assert_eq!(rt; handler.sends, false);
     let mut all = Vec::from_slice(rt.alloc(), REPLY).ok().ok_or("memory")?;
     all.extend_from_slice(HELLO_BACK).ok().ok_or("memory")?;

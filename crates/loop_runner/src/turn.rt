@@ -7,9 +7,11 @@ ghost use Rattle.link_trait.specs.declared.net.NetEvent.{NetEvent};
 ghost use Rattle.link_trait.specs.Net.{Nexts, is_rest};
 ghost use Rattle.route_table.specs.Table.{RouteTable};
 ghost use Rattle.run_kept.specs.Kept.{IntakeView};
-ghost use Rattle.loop_runner.specs.Keeps.{Grows, KeptAll, AreViews, IsRight};
+ghost use Rattle.run_kept.specs.Ends.{AreThere};
+ghost use Rattle.loop_runner.specs.Keeps.{Grows, KeptAll, AreViews, IsRight, IsSettled, IsLivedThroughout, EndsWithTurn};
 ghost use Rattle.link_trait.specs.Link.{Rose};
 ghost use Rattle.hub_lines.specs.State.{server};
+ghost use Rattle.hub_notes.specs.Progress.{due_at};
 ghost use Rattle.hub_table.specs.Table.{IsTable, table_of};
 ghost use Rattle.loop_runner.specs.Ready.{Ready};
 ghost use Rattle.loop_runner.specs.Steps.{Every, Steps, Running, Onward};
@@ -46,8 +48,12 @@ pub enum Turned {
 /// connection was taken. A turn ends as `Failed` only where the net counted a fault in it.
 ///
 /// What is kept before the turn is kept after it (`kept`), and then the run is right (`right`): what the handler was given is what
-/// the octets say, and what each link took, with what is held, is what was sent. This is said for nets and watches that tell, and
-/// where fewer than 2^64 - 1 answers of the net and items of a connection were counted.
+/// the octets say, and what each link took, with what is held, is what was sent. Where at the end of each earlier turn the handler
+/// had been given what the octets read until then say, it was so at the end of this one too (`throughout`), with which the notes
+/// end (`last`). Where besides each link that was live is that of an entry which is not gone, it is so afterwards (`there`), and all
+/// is settled (`settled`): what was ready was read, and the handler was told of each connection that left Open, but for those that
+/// left as the turn ended. This is said for nets and watches that tell, and where fewer than 2^64 - 1 answers of the net and items
+/// of a connection were counted.
 pub fn run_turn<N: Net, W: Watch, H: Handler>(
     hub: &mut Hub,
     intakes: &mut Intakes,
@@ -62,6 +68,10 @@ pub fn run_turn<N: Net, W: Watch, H: Handler>(
     ensures grows { Grows (server hub.old (N.state out.old.net) (W.told out.old.watch)) (server hub.new (N.state out.new.net) (W.told out.new.watch)) }
     ensures kept { (start : H.State) (config : ConfigValue) (views : ℕ → IntakeView) → length (N.state out.new.net).passed < 2 ^ 64 - 1 → AreViews intakes.old views → KeptAll start H.after H.said config routes.now (server hub.old (N.state out.old.net) (W.told out.old.watch)) (H.state handler.old) views None → (later : ℕ → IntakeView) × AreViews intakes.new later × KeptAll start H.after H.said config routes.now (server hub.new (N.state out.new.net) (W.told out.new.watch)) (H.state handler.new) later None }
     ensures right { (start : H.State) (config : ConfigValue) (views : ℕ → IntakeView) → length (N.state out.new.net).passed < 2 ^ 64 - 1 → AreViews intakes.old views → KeptAll start H.after H.said config routes.now (server hub.old (N.state out.old.net) (W.told out.old.watch)) (H.state handler.old) views None → IsRight start H.after H.said config routes.now (server hub.new (N.state out.new.net) (W.told out.new.watch)) (H.state handler.new) }
+    ensures there { AreThere (server hub.old (N.state out.old.net) (W.told out.old.watch)) → AreThere (server hub.new (N.state out.new.net) (W.told out.new.watch)) }
+    ensures settled { (start : H.State) (config : ConfigValue) (views : ℕ → IntakeView) → length (N.state out.new.net).passed < 2 ^ 64 - 1 → AreViews intakes.old views → KeptAll start H.after H.said config routes.now (server hub.old (N.state out.old.net) (W.told out.old.watch)) (H.state handler.old) views None → AreThere (server hub.old (N.state out.old.net) (W.told out.old.watch)) → IsSettled start H.after H.said config routes.now (server hub.new (N.state out.new.net) (W.told out.new.watch)) }
+    ensures last { EndsWithTurn (W.told out.new.watch) }
+    ensures throughout { (start : H.State) (config : ConfigValue) (views : ℕ → IntakeView) → length (N.state out.new.net).passed < 2 ^ 64 - 1 → AreViews intakes.old views → KeptAll start H.after H.said config routes.now (server hub.old (N.state out.old.net) (W.told out.old.watch)) (H.state handler.old) views None → IsLivedThroughout start H.after H.said config routes.now (server hub.old (N.state out.old.net) (W.told out.old.watch)) → IsLivedThroughout start H.after H.said config routes.now (server hub.new (N.state out.new.net) (W.told out.new.watch)) }
 {
     begin(hub, intakes, out, handler);
     'events: loop {
@@ -82,6 +92,7 @@ fn begin<N: Net, W: Watch, H: Handler>(
     requires ready { Ready intakes.old (server hub.old (N.state out.old.net) (W.told out.old.watch)) }
     ensures running { Running Every intakes.new (server hub.new (N.state out.new.net) (W.told out.new.watch)) }
     ensures table { IsTable (table_of hub.new) }
+    ensures none { (conn : ℕ) → due_at hub.new conn ≡ None }
     ensures steps { Steps Every (server hub.old (N.state out.old.net) (W.told out.old.watch)) (server hub.new (N.state out.new.net) (W.told out.new.watch)) }
     ensures grows { Grows (server hub.old (N.state out.old.net) (W.told out.old.watch)) (server hub.new (N.state out.new.net) (W.told out.new.watch)) }
     ensures kept { (start : H.State) (config : ConfigValue) (table : RouteTable) (views : ℕ → IntakeView) → AreViews intakes.old views → KeptAll start H.after H.said config table (server hub.old (N.state out.old.net) (W.told out.old.watch)) (H.state handler.old) views None → (later : ℕ → IntakeView) × AreViews intakes.new later × KeptAll start H.after H.said config table (server hub.new (N.state out.new.net) (W.told out.new.watch)) (H.state handler.new) later None }
@@ -101,16 +112,21 @@ fn take_event<N: Net, W: Watch, H: Handler>(
     handler: &mut H,
 ) -> Option<Turned>
     requires table { IsTable (table_of hub.old) }
+    requires none { (conn : ℕ) → due_at hub.old conn ≡ None }
     requires running { Running Every intakes.old (server hub.old (N.state out.old.net) (W.told out.old.watch)) }
     ensures running { IfNone result (Running Every intakes.new (server hub.new (N.state out.new.net) (W.told out.new.watch))) }
     ensures table { IfNone result (IsTable (table_of hub.new)) }
+    ensures none { IfNone result ((conn : ℕ) → due_at hub.new conn ≡ None) }
     ensures fell { IfNone result ((N.state out.new.net).room < (N.state out.old.net).room) }
     ensures passed { IfNone result (PassesBetween (N.state out.old.net) (N.state out.new.net)) }
     ensures ready { IfSome result (λ turned. Ready intakes.new (server hub.new (N.state out.new.net) (W.told out.new.watch))) }
     ensures ends { IfSome result (λ turned. PassesTurn turned (N.state out.old.net) (N.state out.new.net)) }
     ensures failed { IfSome result (λ turned. FailsAs turned (N.state out.old.net).faults (N.state out.new.net).faults) }
+    ensures last { IfSome result (λ turned. EndsWithTurn (W.told out.new.watch)) }
     ensures grows { Grows (server hub.old (N.state out.old.net) (W.told out.old.watch)) (server hub.new (N.state out.new.net) (W.told out.new.watch)) }
     ensures kept { (start : H.State) (config : ConfigValue) (views : ℕ → IntakeView) → length (N.state out.new.net).passed < 2 ^ 64 - 1 → AreViews intakes.old views → KeptAll start H.after H.said config routes.now (server hub.old (N.state out.old.net) (W.told out.old.watch)) (H.state handler.old) views None → (later : ℕ → IntakeView) × AreViews intakes.new later × KeptAll start H.after H.said config routes.now (server hub.new (N.state out.new.net) (W.told out.new.watch)) (H.state handler.new) later None }
+    ensures there { AreThere (server hub.old (N.state out.old.net) (W.told out.old.watch)) → AreThere (server hub.new (N.state out.new.net) (W.told out.new.watch)) }
+    ensures settled { IfSome result (λ turned. (start : H.State) (config : ConfigValue) (views : ℕ → IntakeView) → length (N.state out.new.net).passed < 2 ^ 64 - 1 → KeptAll start H.after H.said config routes.now (server hub.old (N.state out.old.net) (W.told out.old.watch)) (H.state handler.old) views None → AreThere (server hub.old (N.state out.old.net) (W.told out.old.watch)) → IsSettled start H.after H.said config routes.now (server hub.new (N.state out.new.net) (W.told out.new.watch))) }
 {
     match out.net.next() {
         NetEvent::Accept(conn) => {
@@ -123,7 +139,10 @@ fn take_event<N: Net, W: Watch, H: Handler>(
             close_all(hub, intakes, out, handler);
             None
         }
-        NetEvent::Writable(_) => None,
+        NetEvent::Writable(_) => {
+            hub.no_rings();
+            None
+        }
         NetEvent::Tick => {
             hub.tick(out);
             close_all(hub, intakes, out, handler);
@@ -152,11 +171,14 @@ fn end_turn<N: Net, W: Watch, H: Handler>(
     out: &mut Outside<N, W>,
     handler: &H,
 )
+    requires none { (conn : ℕ) → due_at hub.old conn ≡ None }
     requires running { Running Every intakes.old (server hub.old (N.state out.old.net) (W.told out.old.watch)) }
     ensures ready { Ready intakes.new (server hub.new (N.state out.new.net) (W.told out.new.watch)) }
     ensures steps { Steps Every (server hub.old (N.state out.old.net) (W.told out.old.watch)) (server hub.new (N.state out.new.net) (W.told out.new.watch)) }
     ensures grows { Grows (server hub.old (N.state out.old.net) (W.told out.old.watch)) (server hub.new (N.state out.new.net) (W.told out.new.watch)) }
+    ensures last { EndsWithTurn (W.told out.new.watch) }
     ensures kept { (start : H.State) (config : ConfigValue) (table : RouteTable) (views : ℕ → IntakeView) (answer : NetEvent) (before : NetState) → is_rest answer ≡ true → Nexts answer before (N.state out.old.net) → length before.passed < 2 ^ 64 - 1 → AreViews intakes.old views → KeptAll start H.after H.said config table (server hub.old before (W.told out.old.watch)) (H.state handler.now) views None → AreViews intakes.new views × KeptAll start H.after H.said config table (server hub.new (N.state out.new.net) (W.told out.new.watch)) (H.state handler.now) views None }
+    ensures settled { (start : H.State) (config : ConfigValue) (table : RouteTable) (views : ℕ → IntakeView) (answer : NetEvent) (before : NetState) → is_rest answer ≡ true → Nexts answer before (N.state out.old.net) → length before.passed < 2 ^ 64 - 1 → KeptAll start H.after H.said config table (server hub.old before (W.told out.old.watch)) (H.state handler.now) views None → AreThere (server hub.old before (W.told out.old.watch)) → IsSettled start H.after H.said config table (server hub.new (N.state out.new.net) (W.told out.new.watch)) }
 {
     hub.end_turn(out);
     tidy(hub, intakes);

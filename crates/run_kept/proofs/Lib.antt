@@ -11,3 +11,4 @@ pub mod RightLemmas
 pub mod EndLemmas
 pub mod ReadLemmas
 pub mod TurnLemmas
+pub mod ThroughoutLemmas

@@ -5,6 +5,7 @@ mod arriving;
 mod giving;
 mod links;
 mod reading;
+mod throughout;
 mod turning;
 
 pub use arriving::{arrived, unknown};
@@ -16,6 +17,7 @@ pub use reading::{
     all_told, close_told, failure_told, given_some, head_refused, head_waits, intakes_shut,
     never_leaving, ping_told, pong_told, read_ended, read_failed, read_later,
 };
+pub use throughout::lived_through_turn;
 pub use turning::{
     at_first, carried_right, left_at_end, links_at_end, notes_are_told, passing, readied,
     settled_after, ticked, turn_ended, turn_settled, turned_away,

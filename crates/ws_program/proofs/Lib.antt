@@ -4,3 +4,6 @@ pub mod ShortLemmas
 pub mod EventLemmas
 pub mod EchoLemmas
 pub mod WordLemmas
+pub mod ReportLemmas
+pub mod ReplayLemmas
+pub mod RunLemmas

@@ -7,6 +7,7 @@ use Rattle.wire_meaning.specs.Event.{is_last}
 use Rattle.wire_meaning.specs.Reading.{reading}
 use Rattle.wire_meaning.specs.Answer.{echoed}
 use Rattle.ws_program.specs.declared.status.Status.{Status}
+use Rattle.schedule_text.specs.declared.fault.Fault.TheVariants.{TooLong}
 use Rattle.ws_program.specs.declared.status.Status.TheVariants.{Done, Refused, ReadFault, OutOfMemory}
 
 -- the most octets that are read, 64 MiB
@@ -55,10 +56,10 @@ ReadsNoFurther max left left' =
     (before : List ℕ) × (last : List ℕ) × Consumes left left' (before ++ last) × (has_ended max before ≡ false) × (length last ≤ max_read)
     × (length before + length last ≤ max_input + 1)
 
--- only the input as a whole is refused
-abbrev pub IsLineZero : Status → Type 0
-IsLineZero (Refused line fault) = line ≡ 0
-IsLineZero status = ⊤
+-- only the input as a whole is refused, and as too long
+abbrev pub RefusesTooLong : Status → Type 0
+RefusesTooLong (Refused line fault) = (line ≡ 0) × (fault ≡ TooLong)
+RefusesTooLong status = ⊤
 
 -- the answers where no fault was met
 abbrev pub IsFaultless : Status → Type 0
@@ -70,6 +71,6 @@ IsFaultless status = ⊥
 -- how an echo ends by what one more read gave
 abbrev pub EndsPast : Status → (left left' : Option (List ℕ)) → Type 0
 EndsPast Done left left' = (left' ≡ left) × IsAtEnd left'
-EndsPast (Refused line fault) left left' = (others : List ℕ) × Consumes left left' others × (others ≢ []) × (length others ≤ 1) × (line ≡ 0)
+EndsPast (Refused line fault) left left' = (others : List ℕ) × Consumes left left' others × (others ≢ []) × (length others ≤ 1) × (line ≡ 0) × (fault ≡ TooLong)
 EndsPast ReadFault left left' = left' ≡ left
 EndsPast status left left' = ⊥

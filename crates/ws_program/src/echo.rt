@@ -4,12 +4,13 @@ ghost use Rattle.std.specs.Prelude.{◌≡◌, ◌≢◌, ◌≤◌, length, [],
 ghost use Rattle.link_trait.specs.Link.{Rose, TellsAlike};
 ghost use Rattle.frame_reader.specs.Reader.{ahead, room_of};
 ghost use Rattle.ws_program.specs.Answers.{AreShort, AnswersNext, AnswersAll, AnswersOctets, CountsFaults};
-ghost use Rattle.ws_program.specs.Echo.{EchoesAll, EchoesFront, EndsDone, EndsTooLong, ReadsNoFurther, IsLineZero, IsFaultless, EndsPast};
+ghost use Rattle.ws_program.specs.Echo.{EchoesAll, EchoesFront, EndsDone, EndsTooLong, ReadsNoFurther, RefusesTooLong, IsFaultless, EndsPast};
 
 use crate::answers::{Answered, Answers};
-use crate::status::{Fault, Status};
+use crate::status::Status;
 use frame_reader::Reader;
 use link_trait::{Got, Sink, Source};
+use schedule_text::Fault;
 use std::alloc::Global;
 
 /// The most octets that an echo reads, 64 MiB.
@@ -42,7 +43,7 @@ pub fn echo_run<S: Source, K: Sink>(
     requires most { max_message ≤ 65536 }
     ensures done { result ≡ Status.Done → EndsDone max_message (S.left source.old) (S.left source.new) (K.written sink.old) (K.written sink.new) }
     ensures too_long { result ≡ Status.Refused 0 Fault.TooLong → EndsTooLong max_message (S.left source.old) (S.left source.new) (K.written sink.old) (K.written sink.new) }
-    ensures line { IsLineZero result }
+    ensures refused { RefusesTooLong result }
     ensures no_further { ReadsNoFurther max_message (S.left source.old) (S.left source.new) }
 
     ensures read_cause { result ≡ Status.ReadFault → Rose (S.faults source.old) (S.faults source.new) }

@@ -4,7 +4,11 @@
 mod answers;
 mod commands;
 mod echo;
+mod echo_handler;
+mod replay;
+mod report;
 mod status;
+mod words;
 
 use commands::ws_run;
 use link_trait::{StdSink, StdSource};
@@ -13,6 +17,8 @@ use std::env;
 use std::io::ErrorKind;
 use std::process::ExitCode;
 
+#[cfg(test)]
+mod replay_tests;
 #[cfg(test)]
 mod tests;
 

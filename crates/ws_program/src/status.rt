@@ -3,22 +3,8 @@
 ghost use Rattle.std.specs.Prelude.{◌≡◌};
 ghost use Rattle.ws_program.specs.Status.{exit_code_of};
 
+use schedule_text::Fault;
 use std::fmt;
-
-/// What the input breaks.
-#[derive(Clone, Copy, Debug, PartialEq, Eq)]
-pub enum Fault {
-    /// The input has more octets than a command reads.
-    TooLong,
-}
-
-impl fmt::Display for Fault {
-    fn fmt<W: fmt::Write>(&self, f: &mut fmt::Formatter<W>) -> fmt::Result {
-        match self {
-            Fault::TooLong => write!(f, "too long"),
-        }
-    }
-}
 
 /// How a run ends. Its text is what the program prints on standard error behind `corked: `, unless it is `Done`.
 #[derive(Clone, Copy, Debug, PartialEq, Eq)]
@@ -27,13 +13,13 @@ pub enum Status {
     Done,
     /// The words name no command.
     Usage,
-    /// The input breaks a rule in this line, counted from 1; 0 where the fault is of the input as a whole.
+    /// The input breaks this rule first, in this line, counted from 1; 0 where it has more octets than a command reads.
     Refused { line: u64, fault: Fault },
     /// The source had a fault.
     ReadFault,
     /// The sink had a fault.
     WriteFault,
-    /// There was too little memory. Nothing was read or written.
+    /// There was too little memory. Nothing was written.
     OutOfMemory,
 }
 

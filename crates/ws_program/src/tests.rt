@@ -1,7 +1,8 @@
 use crate::commands::ws_run;
 use crate::echo::echo_run;
-use crate::status::{Fault, Status};
+use crate::status::Status;
 use link_trait::{Got, MemSink, MemSource, Source};
+use schedule_text::Fault;
 use std::test::*;
 use wire_meaning::plain_echo;
 use ws_kinds::Bytes;

@@ -1,9 +1,12 @@
-use Rattle.std.proofs.Common.{Some, ℕ, sym, subst, refl, rules}
+use Rattle.std.proofs.Common.{[], ◌∷◌, Some, ℕ, sym, subst, refl, rules}
+use Rattle.ws_kinds.specs.NoteValue as note
+use Rattle.hub_lines.specs.State.{server}
+use Rattle.run_kept.proofs.EndLemmas.{there_arrived, there_shut}
 use Rattle.loop_runner.specs.Intakes.{max_of, intake_at, IsNew, ChangesIntake, SameIntakes}
 use Rattle.loop_runner.specs.Steps.{Every}
 use Rattle.loop_runner.specs.Keeps.{intake_view, with_view}
 use Rattle.loop_runner.proofs.RunningLemmas.{running_steps}
-use Rattle.loop_runner.proofs.ArriveLemmas.{steps_refused, running_same, running_refused, running_accepted, running_told}
+use Rattle.loop_runner.proofs.ArriveLemmas.{there_refused, steps_refused, running_same, running_refused, running_accepted, running_told}
 use Rattle.loop_runner.proofs.TurnKeeps.{views_same, views_new, views_shut, new_here, keep_accepted, keep_busy, keep_memory, keep_no_room, keep_full}
 use Rattle.loop_runner.proofs.arriving.arrive.Goals as goal
 
@@ -79,3 +82,23 @@ returns-in-Memory-clause-kept g c = λ start config table views before next few 
       views_shut c.args.conn.0 c.args.intakes.now c.admit.new.self c.shut-in-Memory.new.intakes views change c.shut-in-Memory.ensures.others c.shut-in-Memory.ensures.none views_are,
       keep_memory start g.H.Handler.after g.H.Handler.said config table c.args.conn c.args.hub.now before _ _ _ views next few c.requires.table c.requires.new _ _ _ c.shut-in-Memory.ensures.told c.in-Memory.ensures.answer c.accept.ensures.appends c.accept.ensures.table c.shut-in-Memory.ensures.shuts kept,
     )
+
+pub returns-then-full-clause-there : goal.returns-then-full-clause-there
+returns-then-full-clause-there g c = λ before next there.
+    there_refused c.args.conn c.args.hub.now before _ _ (g.W.Watch.told c.args.out.now.watch) (g.W.Watch.told c.args.out.now.watch) next c.turn_away.ensures.shuts there
+
+pub returns-then-is_err-clause-there : goal.returns-then-is_err-clause-there
+returns-then-is_err-clause-there g c = λ before next there.
+    there_refused c.args.conn c.args.hub.now before _ _ (g.W.Watch.told c.args.out.now.watch) (g.W.Watch.told c.args.out.now.watch) next c.turn_away-then-is_err.ensures.shuts there
+
+pub returns-in-Taken-clause-there : goal.returns-in-Taken-clause-there
+returns-in-Taken-clause-there g c = λ before next there.
+    there_arrived c.args.conn (server c.args.hub.now before (g.W.Watch.told c.args.out.now.watch)) _ _ next c.in-Taken.ensures.answer.3.advances c.requires.table c.requires.new there
+
+pub returns-in-Busy-clause-there : goal.returns-in-Busy-clause-there
+returns-in-Busy-clause-there g c = λ before next there.
+    there_shut c.args.conn (note.busy c.args.conn.0 ∷ []) (server c.args.hub.now before (g.W.Watch.told c.args.out.now.watch)) _ _ _ next c.in-Busy.ensures.answer.2.advances c.shut.ensures.shuts there
+
+pub returns-in-Memory-clause-there : goal.returns-in-Memory-clause-there
+returns-in-Memory-clause-there g c = λ before next there.
+    there_shut c.args.conn (note.no_room c.args.conn.0 ∷ []) (server c.args.hub.now before (g.W.Watch.told c.args.out.now.watch)) _ _ _ next c.in-Memory.ensures.answer.2.advances c.shut-in-Memory.ensures.shuts there

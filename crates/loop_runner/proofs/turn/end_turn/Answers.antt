@@ -3,6 +3,8 @@ use Rattle.loop_runner.proofs.RunningLemmas.{running_steps}
 use Rattle.loop_runner.proofs.CloseLemmas.{running_tidied}
 use Rattle.loop_runner.proofs.TurnLemmas.{steps_ended, ready_of}
 use Rattle.loop_runner.proofs.TurnKeeps.{grows_ended, keep_ended, views_tidied}
+use Rattle.loop_runner.proofs.RightLemmas.{settled_ended}
+use Rattle.loop_runner.proofs.ThroughoutLemmas.{turn_last}
 use Rattle.loop_runner.proofs.turn.end_turn.Goals as goal
 
 pub tidy-requires : goal.tidy-requires
@@ -27,3 +29,11 @@ returns-clause-kept g c = λ start config table views answer before rest next fe
   views_tidied c.args.intakes.now c.tidy.new.intakes c.end_turn.new.self views c.tidy.ensures.entries c.tidy.ensures.kept views_are,
   keep_ended start g.H.Handler.after g.H.Handler.said config table c.args.hub.now before _ _ _ views answer _ rest next few c.end_turn.ensures.ends c.end_turn.ensures.appends c.end_turn.ensures.table kept,
 )
+
+pub returns-clause-settled : goal.returns-clause-settled
+returns-clause-settled g c = λ start config table views answer before rest next few kept there.
+    settled_ended start g.H.Handler.after g.H.Handler.said config table c.args.hub.now before _ _ _ views answer _ rest next few c.end_turn.ensures.ends c.end_turn.ensures.appends c.end_turn.ensures.table c.end_turn.ensures.settled c.end_turn.ensures.ties
+    c.requires.running.waits (λ d. c.requires.running.asked d (tt {0})) c.requires.none kept there
+
+pub returns-clause-last : goal.returns-clause-last
+returns-clause-last g c = turn_last _ _ c.end_turn.ensures.ends

@@ -29,6 +29,7 @@ became g c = becomes_put c.self.inside.config c.self.inside.named c.args.conn.0 
     (ap (λ z. place_of (entries_of z) c.args.conn.0) (sym c.deref.ensures.value) ∙ c.find_entry-place.ensures.place)
     c.put.ensures.conn c.put.ensures.config c.put.ensures.phase
     (λ h. c.requires.past_head (sym (ap (λ (z : TableState). (entry_of z.entries c.args.conn.0).phase) c.self.view_is) ∙ sym (ap (λ (z : Entry). z.phase) (socket_at c.self.inside.table.items c.args.conn.0 c.find_entry-place.result (ap (λ z. place_of (entries_of z) c.args.conn.0) (sym c.deref.ensures.value) ∙ c.find_entry-place.ensures.place))) ∙ h))
+    c.put.ensures.ring
     c.put.ensures.items
 
 -- the connection at its place, before and after, as the entries

@@ -1,0 +1,4 @@
+pub mod FewLemmas
+pub mod StopLemmas
+pub mod ReplayLemmas
+pub mod EndLemmas

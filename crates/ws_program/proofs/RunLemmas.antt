@@ -1,0 +1,150 @@
+-- What a run over a net in memory comes to, by what the loop says of it.
+use Rattle.std.proofs.Common.{◌≡◌, ◌<◌, ◌≤◌, ◌+◌, ◌-◌, ◌^◌, ℕ, List, [], ◌∷◌, ◌++◌, Option, Some, None, Bool, true, false, cond, nat_eq, map, length, refl, sym, ap, ◌∙◌, subst, arith}
+use Rattle.std.specs.List.{count_by}
+use Rattle.std.proofs.lemmas.List.{length-append}
+use Rattle.ws_kinds.specs.ConfigValue.{ConfigValue}
+use Rattle.ws_kinds.specs.EventValue.{EventValue}
+use Rattle.ws_kinds.specs.NoteValue.{NoteValue}
+use Rattle.ws_kinds.specs.OrderValue.{OrderValue}
+use Rattle.ws_kinds.specs.Recorder.{RecorderState, told_by}
+use Rattle.link_trait.specs.declared.net.NetEvent.{NetEvent}
+use Rattle.link_trait.specs.declared.net.NetEvent.TheVariants as event
+use Rattle.link_trait.specs.declared.schedule.Act.{Act}
+use Rattle.link_trait.specs.Acts.{passes, arrivals, sent}
+use Rattle.link_trait.specs.LinkState.{new_link}
+use Rattle.link_trait.specs.MemNet.{MemNetState, FollowsSchedule, net_state, start_net, link_of}
+use Rattle.route_table.specs.Table.{RouteTable}
+use Rattle.ws_kinds.specs.declared.note.Phase.TheVariants.{Head, Gone}
+use Rattle.run_meaning.specs.Echo.{echo_server, echo_said}
+use Rattle.run_meaning.specs.Replies.{AreReplies}
+use Rattle.hub_lines.specs.State.{HubState, server}
+use Rattle.hub_notes.proofs.BoolLemmas.{clash}
+use Rattle.hub_table.specs.Table.{IsTable, table_of}
+use Rattle.hub_lines.specs.Calls.{Settled}
+use Rattle.schedule_text.specs.Report.{report}
+use Rattle.run_kept.specs.Ends.{AreThere, backlog_at}
+use Rattle.run_kept.proofs.EndLemmas.{there_first}
+use Rattle.frame_reader.specs.declared.reader.Reader.{Reader}
+use Rattle.loop_runner.specs.Intakes.{intake_at}
+use Rattle.loop_runner.specs.declared.intakes.Intakes.{Intakes}
+use Rattle.loop_runner.proofs.RightLemmas.{kept_at_first}
+use Rattle.loop_runner.specs.declared.turns.Ran.TheVariants as ran
+use Rattle.loop_runner.specs.Turns.{Runs}
+use Rattle.loop_runner.specs.Keeps.{IsRight, IsSettled, EndsWithTurn, AreFew, KeptAll, AreViews, view_of}
+use Rattle.run_replayed.specs.Replayed.{IsReplayed, IsReport, links_of, is_turn_act}
+use Rattle.run_replayed.proofs.FewLemmas.{few_items}
+use Rattle.run_replayed.proofs.StopLemmas.{passes_few}
+use Rattle.run_replayed.proofs.EndLemmas.{ran_stopped, ran_never_spent, ran_never_failed}
+use Rattle.run_replayed.proofs.ReplayLemmas.{replay_all}
+use Rattle.ws_program.specs.Replay.{CanRun, HasRun, echo_routes}
+
+-- the meaning of the command's handler
+abbrev pub after_echo : Unit {0} → EventValue → Unit {0}
+after_echo state event = state
+
+abbrev pub said_by_echo : Unit {0} → EventValue → List OrderValue
+said_by_echo state event = echo_said event
+
+-- ---- before the first turn
+
+table_none : (f : ConfigValue) (named : ℕ) → IsTable (record { config = f; named = named; entries = []; partings = [] })
+table_none f named = record {
+  rising = tt;
+  first = λ conn there. clash false refl there;
+  named = λ conn there. clash false refl there;
+  few = omega arith;
+  kept = λ conn. refl;
+  config = λ conn there. clash false refl there;
+  heads = λ conn there. absurd (let z : Gone ≡ Head = there in cc);
+}
+
+pub table_at_first : (hub : HubState) → hub.entries ≡ [] → hub.partings ≡ [] → IsTable (table_of hub)
+table_at_first hub entries partings =
+    subst (λ es. IsTable (record { config = hub.config; named = hub.named; entries = es; partings = hub.partings })) (sym entries)
+    (subst (λ ps. IsTable (record { config = hub.config; named = hub.named; entries = []; partings = ps })) (sym partings) (table_none hub.config hub.named))
+
+idle_link : (acts : List Act) (numbers : List ℕ) (conn : ℕ) → (link_of numbers (map (λ c. new_link (sent c acts)) numbers) conn).live ≡ false
+idle_link acts [] conn = refl
+idle_link acts (number ∷ numbers) conn = one (nat_eq number conn) (idle_link acts numbers conn)
+  where
+    one : (b : Bool) → (link_of numbers (map (λ c. new_link (sent c acts)) numbers) conn).live ≡ false
+        → (cond b (new_link (sent number acts)) (link_of numbers (map (λ c. new_link (sent c acts)) numbers) conn)).live ≡ false
+    one true rest = refl
+    one false rest = rest
+
+pub there_at_first : (acts : List Act) (hub : HubState) (start : MemNetState) (told : Option (List NoteValue)) → start ≡ start_net acts → AreThere (server hub (net_state start) told)
+there_at_first acts hub start told begins =
+    there_first (server hub (net_state start) told) (λ conn. ap (λ (n : MemNetState). (net_state n).live conn) begins ∙ idle_link acts (arrivals acts) conn)
+
+-- views of intakes of which there are none
+pub views_at_first : (intakes : Intakes) (reader : Reader) → ((conn : ℕ) → intake_at intakes conn ≡ None) → AreViews intakes (λ _. view_of reader 0 [])
+views_at_first intakes reader none conn intake there = absurd (let z : None ≡ Some intake = sym (none conn) ∙ there in cc)
+
+pub kept_first : (f : ConfigValue) (acts : List Act) (table : RouteTable) (hub : HubState) (start : MemNetState) (recorder : RecorderState) (reader : Reader)
+    → hub.config ≡ f → hub.entries ≡ [] → hub.partings ≡ [] → start ≡ start_net acts → recorder ≡ record { notes = []; whole = true }
+    → KeptAll tt after_echo said_by_echo f table (server hub (net_state start) (told_by recorder)) tt (λ _. view_of reader 0 []) None
+kept_first f acts table hub start recorder reader configured entries partings begins empty =
+    kept_at_first tt after_echo said_by_echo f table (server hub (net_state start) (told_by recorder)) tt (λ _. view_of reader 0 []) entries partings configured (table_at_first hub entries partings)
+    (ap told_by empty) (ap (λ (n : MemNetState). (net_state n).passed) begins) refl
+
+-- ---- after the last
+
+module _ (f : ConfigValue) (acts : List Act) (hub : HubState) (net : MemNetState) (r : RecorderState) (start : MemNetState) (begins : start ≡ start_net acts) (can : CanRun acts)
+    (follows : FollowsSchedule net) (same : (net_state net).schedule ≡ (net_state start).schedule) (turns : ℕ) where
+  acts_are : net.acts ≡ acts
+  acts_are = let z : Some net.acts ≡ Some acts = same ∙ ap (λ (n : MemNetState). Some n.acts) begins in cc
+
+  nothing_passed : (net_state start).passed ≡ []
+  nothing_passed = ap (λ (n : MemNetState). (net_state n).passed) begins
+
+  few_acts : length net.acts + 1 < 2 ^ 64 - 1
+  few_acts = few (length net.acts) (length acts) (ap (λ (xs : List Act). length xs) acts_are) can.few
+    where
+      few : (n m : ℕ) → n ≡ m → m ≤ 1048576 → n + 1 < 2 ^ 64 - 1
+      few n m same most = omega arith
+
+  pub never_spent : count_by is_turn_act acts < turns → Runs ran.Spent turns (net_state start) (net_state net) → ⊥
+  never_spent more runs = ran_never_spent net follows few_acts (net_state start) turns refl nothing_passed (subst (λ (xs : List Act). count_by is_turn_act xs < turns) (sym acts_are) more) runs
+
+  pub never_failed : Runs ran.NetFault turns (net_state start) (net_state net) → ⊥
+  never_failed runs = ran_never_failed net follows few_acts (net_state start) turns refl nothing_passed runs
+
+  module _ (count : ℕ) (runs : Runs (ran.Stopped count) turns (net_state start) (net_state net)) where
+    ended : (net.done ≡ length net.acts) × ((net_state net).passed ≡ passes net.acts ++ event.Stop ∷ [])
+    ended = ran_stopped net follows few_acts (net_state start) turns refl nothing_passed count runs
+
+    pub few_passed : length (net_state net).passed < 2 ^ 64 - 1
+    few_passed =
+        let all : length (net_state net).passed ≡ length (passes net.acts) + 1 = ap (λ (es : List NetEvent). length es) ended.1 ∙ length-append (passes net.acts) (event.Stop ∷ []) in
+        few (length (net_state net).passed) (length (passes net.acts)) (length net.acts) all (passes_few net.acts) few_acts
+      where
+        few : (p q n : ℕ) → p ≡ q + 1 → q ≤ n → n + 1 < 2 ^ 64 - 1 → p < 2 ^ 64 - 1
+        few p q n all most room = omega arith
+
+    pub has_run : Settled hub → r.whole ≡ true → net.whole ≡ true → length r.notes < 2 ^ 64 → EndsWithTurn (told_by r)
+        → IsRight tt after_echo said_by_echo f echo_routes (server hub (net_state net) (told_by r)) tt
+        → IsSettled tt after_echo said_by_echo f echo_routes (server hub (net_state net) (told_by r)) → HasRun f acts hub net r
+    has_run settled kept whole short last right rests = record { settled = settled; reports = all }
+      where
+        told : told_by r ≡ Some r.notes
+        told = ap (λ b. cond b (Some r.notes) None) kept
+
+        replayed : (replies : ℕ → List ℕ) → AreReplies echo_routes r.notes (net_state net).given replies → IsReplayed f echo_routes acts r.notes (net_state net) (backlog_at hub) replies
+        replayed replies agree =
+            let ends = last r.notes told in
+            let few : AreFew (echo_server replies) r.notes = λ front behind split d. few_items replies r.notes front behind ends.0 ends.1 short split d in
+            subst (λ (xs : List Act). IsReplayed f echo_routes xs r.notes (net_state net) (backlog_at hub) replies) acts_are
+            (replay_all f echo_routes r.notes net (backlog_at hub) replies (right r.notes told refl replies agree few) follows whole ended.0 (rests r.notes told refl replies agree few))
+
+        all : IsReport f echo_routes acts (report r.notes (links_of (backlog_at hub) (net_state net).taken r.notes))
+        all = record {
+          notes = r.notes;
+          net = net;
+          held = backlog_at hub;
+          text = refl;
+          acts_are = acts_are;
+          follows = follows;
+          used = ended.0 ∙ ap (λ (xs : List Act). length xs) acts_are;
+          passed = ended.1 ∙ ap (λ (xs : List Act). passes xs ++ event.Stop ∷ []) acts_are;
+          run = replayed;
+        }

@@ -1,0 +1,15 @@
+use Rattle.link_trait.specs.MemNet.{net_state}
+use Rattle.schedule_text.specs.Report.{report}
+use Rattle.run_kept.specs.Ends.{backlog_at}
+use Rattle.run_replayed.specs.Replayed.{links_of}
+use Rattle.ws_program.proofs.replay.replay_schedule.Goals as goal
+
+pub returns-then-report : goal.returns-then-report
+returns-then-report g c =
+    let all = c.in-Ok.replayed in
+    (report all.watch.notes (links_of (backlog_at all.hub) (net_state all.net).taken all.watch.notes), c.in-Ok.ensures.reports, c.if-report.ensures)
+
+pub returns : goal.returns
+returns g c =
+    let all = c.in-Ok.replayed in
+    (report all.watch.notes (links_of (backlog_at all.hub) (net_state all.net).taken all.watch.notes), c.in-Ok.ensures.reports, c.if-report.ensures)

@@ -1,0 +1,203 @@
+//! The command `replay`: a schedule is read and run over a net in memory, and the report of its run is written.
+
+ghost use Rattle.std.specs.Prelude.{◌≡◌, ◌≢◌, ◌≤◌, ◌<◌, ◌^◌, ℕ, List, Some, true, length, IfOk, IfErr};
+ghost use Rattle.std.specs.List.{count_by};
+ghost use Rattle.link_trait.specs.Link.{Rose, TellsAlike};
+ghost use Rattle.link_trait.specs.MemNet.{FollowsSchedule};
+ghost use Rattle.run_replayed.specs.Replayed.{is_turn_act};
+ghost use Rattle.schedule_text.specs.Reading.{IsText, IsRefused};
+ghost use Rattle.ws_program.specs.Echo.{IsFaultless};
+ghost use Rattle.ws_program.specs.Replay.{ReplaysAll, ReplaysFront, IsRefusal, WritesNothing, RefusesAs, IsTaken, CanRun, HasRun, GivesAll, StopsReading, AnswersSchedule, AnswersText, echo_routes};
+
+use crate::echo_handler::Echo;
+use crate::report::report;
+use crate::status::Status;
+use frame_reader::Reader;
+use hub_core::Hub;
+use link_trait::{Act, Got, MemNet, Outside, Schedule, Sink, Source};
+use loop_runner::{Intakes, Ran, run};
+use route_table::Routes;
+use schedule_text::{Fault, ReadFault, read};
+use std::alloc::{AllocError, Global};
+use ws_kinds::{Config, Recorder, Tally};
+
+/// The most octets that are read: one more than a schedule's text may have, which shows that it is too long.
+const MAX_INPUT: usize = 1_048_577;
+
+/// The most octets of one read.
+const MAX_READ: usize = 8192;
+
+/// Reads the text of a schedule from the source, to its end, runs it over a net in memory with a handler that sends each
+/// message on the route `/echo` back, and writes the report of the run to the sink: the line of each note, in order, and
+/// then the line of each accepted connection's link, by ascending number.
+///
+/// Nothing is written before the run has ended. It ends
+///
+/// - as `Done` where all of the report is written;
+/// - as `Refused` with the first line of the text that breaks a rule, and that rule; or with line 0 and `TooLong` where the
+///   source has more than 1,048,576 octets, of which one more is read. Nothing is written then;
+/// - as `ReadFault` at the first fault of the source, which it counted. Nothing is written then;
+/// - as `WriteFault` at the first fault of the sink, which it counted. A front of the report is written then;
+/// - as `OutOfMemory` where there was too little memory, also for a note or for what a link took. Nothing is written then.
+pub fn replay_run<S: Source, K: Sink>(
+    alloc: Global,
+    config: Config,
+    source: &mut S,
+    sink: &mut K,
+) -> Status
+    ensures done { result ≡ Status.Done → ReplaysAll config (S.left source.old) (S.left source.new) (K.written sink.old) (K.written sink.new) }
+    ensures write_front { result ≡ Status.WriteFault → ReplaysFront config (S.left source.old) (S.left source.new) (K.written sink.old) (K.written sink.new) }
+    ensures refused { (line : ℕ) (fault : Fault) → result ≡ Status.Refused line fault → IsRefusal line fault (S.left source.old) (S.left source.new) }
+    ensures nothing { WritesNothing result (K.written sink.old) (K.written sink.new) }
+
+    ensures every_text { (octets : List ℕ) (acts : List Act) → S.left source.old ≡ Some octets → IsText octets acts → IsTaken result }
+    ensures every_fault { (octets : List ℕ) (line : ℕ) (fault : Fault) → S.left source.old ≡ Some octets → IsRefused octets line fault → RefusesAs line fault result }
+    ensures read_cause { result ≡ Status.ReadFault → Rose (S.faults source.old) (S.faults source.new) }
+    ensures write_cause { result ≡ Status.WriteFault → Rose (K.faults sink.old) (K.faults sink.new) }
+    ensures usage { result ≢ Status.Usage }
+    ensures complete { (Rose (S.faults source.old) (S.faults source.new) → ⊥) → (Rose (K.faults sink.old) (K.faults sink.new) → ⊥) → IsFaultless result }
+
+    ensures source_tells { TellsAlike (S.left source.old) (S.left source.new) }
+    ensures sink_tells { TellsAlike (K.written sink.old) (K.written sink.new) }
+    ensures source_later { S.faults source.old ≤ S.faults source.new }
+    ensures sink_later { K.faults sink.old ≤ K.faults sink.new }
+{
+    match read_all(alloc, source) {
+        Ok(octets) => replay_text(alloc, config, &octets, sink),
+        Err(status) => status,
+    }
+}
+
+/// The octets of a source, to its end; or the first 1,048,577 of them, where there are so many.
+fn read_all<S: Source>(alloc: Global, source: &mut S) -> Result<Vec<u8>, Status>
+    ensures given { IfOk result (λ octets. GivesAll octets.items (S.left source.old) (S.left source.new)) }
+    ensures stopped { IfErr result (λ status. StopsReading status (S.faults source.old) (S.faults source.new)) }
+    ensures tells { TellsAlike (S.left source.old) (S.left source.new) }
+    ensures later { S.faults source.old ≤ S.faults source.new }
+{
+    let mut octets = Vec::new(alloc);
+    let mut piece = [0; MAX_READ];
+    'reads: while octets.len() < MAX_INPUT {
+        let most = MAX_READ.min(MAX_INPUT - octets.len());
+        match source.read(&mut piece[..most]) {
+            Got::Octets(count) => {
+                if octets.extend_from_slice(&piece[..count]).is_err() {
+                    return Err(Status::OutOfMemory);
+                }
+            }
+            Got::End => return Ok(octets),
+            Got::Failed => return Err(Status::ReadFault),
+        }
+    }
+    Ok(octets)
+}
+
+/// Runs the schedule of a text, and writes its report.
+fn replay_text<K: Sink>(alloc: Global, config: Config, octets: &[u8], sink: &mut K) -> Status
+    ensures answers { AnswersText config octets.now result (K.written sink.old) (K.written sink.new) (K.faults sink.old) (K.faults sink.new) }
+    ensures every_text { (acts : List Act) → IsText octets.now acts → IsTaken result }
+    ensures every_fault { (line : ℕ) (fault : Fault) → IsRefused octets.now line fault → RefusesAs line fault result }
+{
+    match read(alloc, octets) {
+        Ok(schedule) => replay_schedule(alloc, config, schedule, sink),
+        Err(ReadFault::Refused { line, fault }) => Status::Refused { line, fault },
+        Err(ReadFault::Memory) => Status::OutOfMemory,
+    }
+}
+
+/// Runs a schedule, and writes its report.
+fn replay_schedule<K: Sink>(
+    alloc: Global,
+    config: Config,
+    schedule: Schedule,
+    sink: &mut K,
+) -> Status
+    requires { CanRun schedule }
+    ensures { AnswersSchedule config schedule result (K.written sink.old) (K.written sink.new) (K.faults sink.old) (K.faults sink.new) }
+{
+    let Ok(replayed) = run_schedule(alloc, config, schedule) else {
+        return Status::OutOfMemory;
+    };
+    if report(&replayed.hub, &replayed.net, &replayed.watch, sink) {
+        Status::Done
+    } else {
+        Status::WriteFault
+    }
+}
+
+/// What there is after a run.
+#[derive(Drop)]
+struct Replayed {
+    hub: Hub,
+    net: MemNet,
+    watch: Recorder,
+}
+
+/// Runs a schedule to its end. An error says that there was too little memory, also for a note or for what a link took.
+fn run_schedule(alloc: Global, config: Config, schedule: Schedule) -> Result<Replayed, AllocError>
+    requires { CanRun schedule }
+    ensures { IfOk result (λ replayed. HasRun config schedule replayed.hub replayed.net replayed.watch) }
+{
+    let turns = turns_of(schedule.acts()) as u64 + 1;
+    // Without the memory for one reader no connection could be taken in.
+    let reader = Reader::new(alloc, config.max_message())?;
+    drop(reader);
+    let mut hub = Hub::new(alloc, config)?;
+    let mut intakes = Intakes::new(alloc, config.max_message());
+    let routes = routes_of_echo(alloc)?;
+    let net = MemNet::new(alloc, schedule)?;
+    let watch = Recorder::new(alloc);
+    let tally = Tally::new();
+    let mut out = Outside { net, watch, tally };
+    let ran = run(&mut hub, &mut intakes, &routes, &mut out, &mut Echo, turns);
+    if !is_whole(&out.net, &out.watch) {
+        return Err(AllocError);
+    }
+    match ran {
+        Ran::Stopped(_) => {
+            let Outside { net, watch, .. } = out;
+            Ok(Replayed { hub, net, watch })
+        }
+        Ran::Spent => unreachable!("there is one turn more than the acts make"),
+        Ran::NetFault => unreachable!("a net in memory does not fail to say what is next"),
+    }
+}
+
+/// Whether a run was recorded, with each of its notes, and no write failed.
+fn is_whole(net: &MemNet, watch: &Recorder) -> bool
+    ensures net { result ≡ true → net.now.whole ≡ true }
+    ensures watch { result ≡ true → watch.now.whole ≡ true }
+    ensures few { length watch.now.notes < 2 ^ 64 }
+    ensures follows { FollowsSchedule net.now }
+{
+    let unbroken = net.whole();
+    watch.count() > 0 && watch.whole() && unbroken
+}
+
+/// The routes of the command: `/echo` alone, without a subprotocol, as number 0.
+fn routes_of_echo(alloc: Global) -> Result<Routes, AllocError>
+    ensures { IfOk result (λ routes. routes ≡ echo_routes) }
+{
+    let mut routes = Routes::new(alloc);
+    match routes.add("/echo", b"") {
+        Ok(_) => Ok(routes),
+        // For want of memory: the table has no other route, and the pattern is one that it reads.
+        Err(_) => Err(AllocError),
+    }
+}
+
+/// How many of the acts are turns.
+fn turns_of(acts: &[Act]) -> usize
+    ensures { result ≡ count_by is_turn_act acts.now }
+{
+    acts.iter().filter(|act| is_turn(act)).count()
+}
+
+fn is_turn(act: &Act) -> bool
+    ensures { result ≡ is_turn_act act.now }
+{
+    match act {
+        Act::Turn => true,
+        _ => false,
+    }
+}
