@@ -10,10 +10,10 @@ use Rattle.wire_meaning.specs.Event.{ping, pong, closed, closing}
 use Rattle.wire_meaning.specs.Reading.{Begun, more, ends, gives, is_control, frame_front, events_from, reads}
 use Rattle.wire_meaning.proofs.MaskLemmas.{length-unmasked}
 use Rattle.frame_reader.specs.declared.header.FrameHeader.{FrameHeader}
-use Rattle.frame_reader.specs.declared.reader.Told.{Told}
-use Rattle.frame_reader.specs.declared.reader.Told.TheVariants as told
+use Rattle.frame_reader.specs.declared.reader.EventSpan.{EventSpan}
+use Rattle.frame_reader.specs.declared.reader.EventSpan.TheVariants as span
 use Rattle.frame_reader.specs.Header.{behind, IsHeader}
-use Rattle.frame_reader.specs.Turn.{last, told_event, lent_of, is_last}
+use Rattle.frame_reader.specs.Parsed.{last, span_event, lent_of, is_last}
 use Rattle.frame_reader.specs.Close.{CloseIs}
 use Rattle.frame_reader.proofs.EnterLemmas.{behind_header}
 
@@ -150,16 +150,16 @@ part_of : (xs : List ℕ) (from to : ℕ) → from ≤ to → to ≤ length xs �
 part_of xs from to p q = same_lists _ _ (search (rules, places)) (λ i d below. grind (arith, places))
 
 -- the event that a close tells, by the octets of its reason among the raw ones
-pub close_event : (t : Told) (items' : List ℕ) (from to : ℕ) → from ≤ to → to ≤ length items' → CloseIs t (take (to - from) (drop from items')) → (message : List ℕ)
-    → (closing (take (to - from) (drop from items')) ≡ told_event t to items' message) × (lent_of t ≤ to) × (is_last t ≡ true)
-close_event (told.Close code size) items' from to p q (n, e) message =
+pub close_event : (t : EventSpan) (items' : List ℕ) (from to : ℕ) → from ≤ to → to ≤ length items' → CloseIs t (take (to - from) (drop from items')) → (message : List ℕ)
+    → (closing (take (to - from) (drop from items')) ≡ span_event t to items' message) × (lent_of t ≤ to) × (is_last t ≡ true)
+close_event (span.Close code size) items' from to p q (n, e) message =
     let long : length (take (to - from) (drop from items')) ≡ to - from = length-take-le (to - from) (drop from items') (omega (arith, length-drop from items')) in
     let part : take (to - from) (drop from items') ≡ drop from (take to items') = sym (part_of items' from to p q) in
     let reason : drop (length (take (to - from) (drop from items')) - size) (take (to - from) (drop from items')) ≡ last size to items' =
     ap (λ (k : ℕ). drop (k - size) (take (to - from) (drop from items'))) long
     ∙ ap (drop (to - from - size)) part ∙ drop-drop (to - from - size) from (take to items') ∙ ap (λ (k : ℕ). drop k (take to items')) (omega arith) in
     (e ∙ ap (closed code) reason, omega arith, refl)
-close_event (told.Failed code) items' from to p q e message = (e, omega arith, refl)
-close_event (told.Message kind) items' from to p q e message = absurd e
-close_event (told.Ping size) items' from to p q e message = absurd e
-close_event (told.Pong size) items' from to p q e message = absurd e
+close_event (span.Failed code) items' from to p q e message = (e, omega arith, refl)
+close_event (span.Message kind) items' from to p q e message = absurd e
+close_event (span.Ping size) items' from to p q e message = absurd e
+close_event (span.Pong size) items' from to p q e message = absurd e

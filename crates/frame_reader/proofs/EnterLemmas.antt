@@ -1,23 +1,23 @@
 -- What a header that is whole leads to.
-use Rattle.std.proofs.Common.{◌≡◌, ℕ, ◌+◌, Bool, false, List, [], ◌∷◌, ◌++◌, drop, Option, Some, None, refl, sym, ap, subst, ◌∙◌}
+use Rattle.std.proofs.Common.{◌≡◌, ℕ, ◌+◌, List, [], ◌∷◌, ◌++◌, drop, Option, Some, None, refl, sym, ap, subst, ◌∙◌}
 use Rattle.std.proofs.lemmas.List.{drop-drop, append-nil}
 use Rattle.ws_kinds.specs.declared.kind.Kind.{Kind}
 use Rattle.wire_meaning.specs.declared.frame.Opcode.{Opcode}
 use Rattle.wire_meaning.specs.declared.frame.Opcode.TheVariants.{Continuation, Begins, Close, Ping, Pong, Reserved}
 use Rattle.wire_meaning.specs.Event.{failed}
-use Rattle.wire_meaning.specs.Reading.{Begun, Front, more, ends, is_control, begun_octets, frame_front, events_from, front_at, reads}
+use Rattle.wire_meaning.specs.Reading.{Begun, Front, more, ends, begun_octets, events_from, front_at, reads}
 use Rattle.wire_meaning.proofs.ReadingLemmas.{reads_is}
 use Rattle.wire_meaning.proofs.GrowthLemmas.{Extends, front_extends}
 use Rattle.frame_reader.specs.declared.header.FrameHeader.{FrameHeader}
 use Rattle.frame_reader.specs.declared.data_frame.DataFrame.{DataFrame}
 use Rattle.frame_reader.specs.declared.reader.State.{State}
-use Rattle.frame_reader.specs.declared.reader.State.TheVariants.{Before}
+use Rattle.frame_reader.specs.declared.reader.State.TheVariants.{AtFrameStart}
 use Rattle.frame_reader.specs.Header.{kind_in, behind, IsHeader}
 use Rattle.frame_reader.specs.Middle.{Middle, middle_front}
 use Rattle.frame_reader.specs.State.{begun_of, middle_of, coming}
 
-pub coming_before : (max : ℕ) (state : State) (kind : Option Kind) (all octets : List ℕ) → state ≡ Before kind → coming max state all octets ≡ reads max (begun_of kind all) octets
-coming_before max state kind all octets e = ap (λ s. coming max s all octets) e
+pub coming_at_start : (max : ℕ) (state : State) (kind : Option Kind) (all octets : List ℕ) → state ≡ AtFrameStart kind → coming max state all octets ≡ reads max (begun_of kind all) octets
+coming_at_start max state kind all octets e = ap (λ s. coming max s all octets) e
 
 -- what comes behind a header that is whole
 pub behind_header : (max : ℕ) (begun : Option Begun) (items : List ℕ) (start : ℕ) (h : FrameHeader) → IsHeader max begun (drop start items) h → (behind_it : List ℕ)
@@ -29,8 +29,8 @@ behind_header max begun items start h is behind_it =
 abbrev first_middle : FrameHeader → Kind → List ℕ → Middle
 first_middle h kind all = record { final = h.is_final; kind = kind; all = all; left = h.size; key = h.key; place = 0 }
 
-data_behind : (before : Option Kind) (all : List ℕ) (h : FrameHeader) (kind : Kind) (op : Opcode) (octets : List ℕ) → h.opcode ≡ op → kind_in before op ≡ Some kind
-    → behind (begun_of before all) h octets ≡ middle_front (first_middle h kind (begun_octets (begun_of before all))) octets
+data_behind : (open_kind : Option Kind) (all : List ℕ) (h : FrameHeader) (kind : Kind) (op : Opcode) (octets : List ℕ) → h.opcode ≡ op → kind_in open_kind op ≡ Some kind
+    → behind (begun_of open_kind all) h octets ≡ middle_front (first_middle h kind (begun_octets (begun_of open_kind all))) octets
 data_behind None all h kind (Begins k) octets o e = let same : k ≡ kind = cc in rw o (ap (λ (x : Kind). middle_front (first_middle h x []) octets) same)
 data_behind (Some k) all h kind Continuation octets o e = let same : k ≡ kind = cc in rw o (ap (λ (x : Kind). middle_front (first_middle h x all) octets) same)
 data_behind None all h kind Continuation octets o e = absurd cc
@@ -44,37 +44,15 @@ data_behind (Some k) all h kind Ping octets o e = absurd cc
 data_behind (Some k) all h kind Pong octets o e = absurd cc
 data_behind (Some k) all h kind Reserved octets o e = absurd cc
 
-pub enters : (max : ℕ) (before : Option Kind) (old all items : List ℕ) (start : ℕ) (h : FrameHeader) (kind : Kind) (frame : DataFrame) → IsHeader max (begun_of before old) (drop start items) h → kind_in before h.opcode ≡ Some kind
-    → all ≡ begun_octets (begun_of before old) → frame.is_final ≡ h.is_final → frame.left ≡ h.size → frame.key ≡ h.key → frame.place ≡ 0 → (behind_it : List ℕ)
-    → reads max (begun_of before old) (drop start items ++ behind_it) ≡ events_from (reads max) (middle_front (middle_of kind frame all) (drop (start + h.length) items ++ behind_it))
-enters max before old all items start h kind frame is k a f l y p behind_it =
-    behind_header max (begun_of before old) items start h is behind_it
-    ∙ ap (events_from (reads max)) (data_behind before old h kind h.opcode (drop (start + h.length) items ++ behind_it) refl k ∙ sym same)
+pub enters : (max : ℕ) (open_kind : Option Kind) (old all items : List ℕ) (start : ℕ) (h : FrameHeader) (kind : Kind) (frame : DataFrame) → IsHeader max (begun_of open_kind old) (drop start items) h → kind_in open_kind h.opcode ≡ Some kind
+    → all ≡ begun_octets (begun_of open_kind old) → frame.is_final ≡ h.is_final → frame.left ≡ h.size → frame.key ≡ h.key → frame.place ≡ 0 → (behind_it : List ℕ)
+    → reads max (begun_of open_kind old) (drop start items ++ behind_it) ≡ events_from (reads max) (middle_front (middle_of kind frame all) (drop (start + h.length) items ++ behind_it))
+enters max open_kind old all items start h kind frame is k a f l y p behind_it =
+    behind_header max (begun_of open_kind old) items start h is behind_it
+    ∙ ap (events_from (reads max)) (data_behind open_kind old h kind h.opcode (drop (start + h.length) items ++ behind_it) refl k ∙ sym same)
   where
-    same : middle_front (middle_of kind frame all) (drop (start + h.length) items ++ behind_it) ≡ middle_front (first_middle h kind (begun_octets (begun_of before old))) (drop (start + h.length) items ++ behind_it)
+    same : middle_front (middle_of kind frame all) (drop (start + h.length) items ++ behind_it) ≡ middle_front (first_middle h kind (begun_octets (begun_of open_kind old))) (drop (start + h.length) items ++ behind_it)
     same = λ i. middle_front (record { final = f i; kind = kind; all = a i; left = l i; key = y i; place = p i }) (drop (start + h.length) items ++ behind_it)
-
--- a data frame out of its turn
-none_behind : (before : Option Kind) (all : List ℕ) (final : Bool) (op : Opcode) (whole : Bool) (payload rest : List ℕ) → is_control op ≡ false → kind_in before op ≡ None
-    → frame_front (begun_of before all) final op whole payload rest ≡ ends (failed 1002)
-none_behind None all final Continuation whole payload rest c e = refl
-none_behind None all final Reserved whole payload rest c e = refl
-none_behind (Some k) all final (Begins kind) whole payload rest c e = refl
-none_behind (Some k) all final Reserved whole payload rest c e = refl
-none_behind None all final (Begins kind) whole payload rest c e = absurd cc
-none_behind (Some k) all final Continuation whole payload rest c e = absurd cc
-none_behind None all final Close whole payload rest c e = absurd cc
-none_behind None all final Ping whole payload rest c e = absurd cc
-none_behind None all final Pong whole payload rest c e = absurd cc
-none_behind (Some k) all final Close whole payload rest c e = absurd cc
-none_behind (Some k) all final Ping whole payload rest c e = absurd cc
-none_behind (Some k) all final Pong whole payload rest c e = absurd cc
-
-pub refused_behind : (max : ℕ) (before : Option Kind) (all items : List ℕ) (start : ℕ) (h : FrameHeader) → IsHeader max (begun_of before all) (drop start items) h → is_control h.opcode ≡ false → kind_in before h.opcode ≡ None
-    → (behind_it : List ℕ) → reads max (begun_of before all) (drop start items ++ behind_it) ≡ failed 1002 ∷ []
-refused_behind max before all items start h is c k behind_it =
-    behind_header max (begun_of before all) items start h is behind_it
-    ∙ ap (events_from (reads max)) (none_behind before all h.is_final h.opcode _ _ _ c k)
 
 -- a header that is refused, or has not all come
 pub refused_at : (max : ℕ) (begun : Option Begun) (raw : List ℕ) (code : ℕ) → front_at max begun raw ≡ ends (failed code) → (ys : List ℕ) → reads max begun (raw ++ ys) ≡ failed code ∷ []

@@ -2,7 +2,7 @@
 use Rattle.std.specs.Prelude.{◌==◌, not}
 use Rattle.std.proofs.Common.{◌≡◌, ℕ, suc, ◌+◌, ◌-◌, ◌^◌, ◌<◌, ◌≤◌, Bool, true, false, cond, nat_lt, nat_le, ◌&&◌, ◌||◌, List, [], ◌∷◌, ◌++◌, length, take, drop, Option, Some, None, refl, sym, ap, subst, ◌∙◌, arith, inl, inr, length-drop}
 use Rattle.std.specs.Int.{Width, w16, w64, byte_len, from_be_bytes}
-use Rattle.std.proofs.lemmas.Bool.{cases_lt, le-ltb, lt-ltb, le-leb, lt-leb, ne_eqb}
+use Rattle.std.proofs.lemmas.Bool.{cases_lt, le-ltb, lt-ltb}
 use Rattle.std.proofs.lemmas.List.{drop-drop}
 use Rattle.wire_meaning.specs.declared.frame.Opcode.{Opcode}
 use Rattle.wire_meaning.specs.declared.frame.Opcode.TheVariants.{Continuation, Begins, Close, Ping, Pong, Reserved}
@@ -10,38 +10,39 @@ use Rattle.wire_meaning.specs.Mask.{unmasked}
 use Rattle.wire_meaning.specs.Event.{failed}
 use Rattle.wire_meaning.specs.Frame.{Opening, is_final, has_reserved_bit, opcode_of, is_masked, seven_bits, octets_at, number_at, size_at, key_at, with_key, with_size}
 use Rattle.wire_meaning.specs.Reading.{Begun, Front, more, ends, is_reserved, is_control, is_data, is_out_of_turn, begun_octets, is_over, refuses_first, refuses_second, frame_front, body_front, unless_breach, front_at}
+use Rattle.wire_meaning.proofs.ReadingLemmas.{control_short, size_part}
 use Rattle.wire_meaning.proofs.GrowthLemmas.{Grows, front_grows, size_grows, code_of, size_of, code_at, breach_sized}
-use Rattle.frame_reader.specs.declared.header.Before.{Before}
+use Rattle.frame_reader.specs.declared.header.MessageState.{MessageState}
 use Rattle.frame_reader.specs.declared.header.FrameHeader.{FrameHeader}
 use Rattle.frame_reader.specs.Header.{opened, Describes, behind, IsHeader}
 
 -- ---- what a message that is open does to a header
 
-pub same_turn : (before : Before) (begun : Option Begun) (opcode : Opcode) → Describes before begun → is_out_of_turn (opened before.kind) opcode ≡ is_out_of_turn begun opcode
-same_turn before None Continuation d = rw d.0 refl
-same_turn before None (Begins kind) d = rw d.0 refl
-same_turn before None Close d = refl
-same_turn before None Ping d = refl
-same_turn before None Pong d = refl
-same_turn before None Reserved d = refl
-same_turn before (Some begun) Continuation d = rw d.0 refl
-same_turn before (Some begun) (Begins kind) d = rw d.0 refl
-same_turn before (Some begun) Close d = refl
-same_turn before (Some begun) Ping d = refl
-same_turn before (Some begun) Pong d = refl
-same_turn before (Some begun) Reserved d = refl
+pub same_turn : (message : MessageState) (begun : Option Begun) (opcode : Opcode) → Describes message begun → is_out_of_turn (opened message.kind) opcode ≡ is_out_of_turn begun opcode
+same_turn message None Continuation d = rw d.0 refl
+same_turn message None (Begins kind) d = rw d.0 refl
+same_turn message None Close d = refl
+same_turn message None Ping d = refl
+same_turn message None Pong d = refl
+same_turn message None Reserved d = refl
+same_turn message (Some begun) Continuation d = rw d.0 refl
+same_turn message (Some begun) (Begins kind) d = rw d.0 refl
+same_turn message (Some begun) Close d = refl
+same_turn message (Some begun) Ping d = refl
+same_turn message (Some begun) Pong d = refl
+same_turn message (Some begun) Reserved d = refl
 
-pub same_first : (before : Before) (begun : Option Begun) (first : ℕ) → Describes before begun → refuses_first begun first ≡ refuses_first (opened before.kind) first
-same_first before begun first d =
-    ap (λ (turn : Bool). has_reserved_bit first || is_reserved (opcode_of first) || (is_control (opcode_of first) && not (is_final first)) || turn) (sym (same_turn before begun (opcode_of first) d))
+pub same_first : (message : MessageState) (begun : Option Begun) (first : ℕ) → Describes message begun → refuses_first begun first ≡ refuses_first (opened message.kind) first
+same_first message begun first d =
+    ap (λ (turn : Bool). has_reserved_bit first || is_reserved (opcode_of first) || (is_control (opcode_of first) && not (is_final first)) || turn) (sym (same_turn message begun (opcode_of first) d))
 
-same_held : (before : Before) (begun : Option Begun) → Describes before begun → before.held ≡ length (begun_octets begun)
-same_held before None d = d.1
-same_held before (Some begun) d = d.1
+same_held : (message : MessageState) (begun : Option Begun) → Describes message begun → message.held ≡ length (begun_octets begun)
+same_held message None d = d.1
+same_held message (Some begun) d = d.1
 
-pub same_over : (before : Before) (begun : Option Begun) (first size : ℕ) → Describes before begun
-    → is_over before.max_message begun first size ≡ (is_data (opcode_of first) && nat_lt before.max_message (before.held + size))
-same_over before begun first size d = ap (λ (held : ℕ). is_data (opcode_of first) && nat_lt before.max_message (held + size)) (sym (same_held before begun d))
+pub same_over : (message : MessageState) (begun : Option Begun) (first size : ℕ) → Describes message begun
+    → is_over message.max_message begun first size ≡ (is_data (opcode_of first) && nat_lt message.max_message (message.held + size))
+same_over message begun first size d = ap (λ (held : ℕ). is_data (opcode_of first) && nat_lt message.max_message (held + size)) (sym (same_held message begun d))
 
 -- ---- the rows of what is refused
 
@@ -131,15 +132,15 @@ pub record Sized (begun : Option Begun) (raw : List ℕ) (first second : ℕ) (o
   pub second_fine : refuses_second first second ≡ false
   pub size_is : size_at second octets ≡ Some (size, rest)
 
-pub refused_top : (max : ℕ) (begun : Option Begun) (raw : List ℕ) (first second : ℕ) (octets : List ℕ) (size : ℕ) (rest : List ℕ) → Sized begun raw first second octets size rest → 2 ^ 63 ≤ size → front_at max begun raw ≡ ends (failed 1002)
+pub refused_top : (max : ℕ) (begun : Option Begun) (raw : List ℕ) (first second : ℕ) (octets : List ℕ) (size : ℕ) (rest : List ℕ) → Sized begun raw first second octets size rest → nat_le (2 ^ 63) size ≡ true → front_at max begun raw ≡ ends (failed 1002)
 refused_top max begun raw first second octets size rest s e =
     at_two max begun raw first second octets (Some (size, rest)) s.two s.size_is
-    ∙ by_top (refuses_first begun first) (refuses_second first second) size (nat_le (2 ^ 63)) (is_over max begun first) (body_of begun (with_size first second (Some (size, rest)))) (le-leb (2 ^ 63) size e)
+    ∙ by_top (refuses_first begun first) (refuses_second first second) size (nat_le (2 ^ 63)) (is_over max begun first) (body_of begun (with_size first second (Some (size, rest)))) e
 
-pub refused_over : (max : ℕ) (begun : Option Begun) (raw : List ℕ) (first second : ℕ) (octets : List ℕ) (size : ℕ) (rest : List ℕ) → Sized begun raw first second octets size rest → size < 2 ^ 63 → is_over max begun first size ≡ true → front_at max begun raw ≡ ends (failed 1009)
+pub refused_over : (max : ℕ) (begun : Option Begun) (raw : List ℕ) (first second : ℕ) (octets : List ℕ) (size : ℕ) (rest : List ℕ) → Sized begun raw first second octets size rest → nat_le (2 ^ 63) size ≡ false → is_over max begun first size ≡ true → front_at max begun raw ≡ ends (failed 1009)
 refused_over max begun raw first second octets size rest s lt e =
     at_two max begun raw first second octets (Some (size, rest)) s.two s.size_is
-    ∙ by_over (refuses_first begun first) (refuses_second first second) size (nat_le (2 ^ 63)) (is_over max begun first) (body_of begun (with_size first second (Some (size, rest)))) s.two.fine s.second_fine (lt-leb (2 ^ 63) size lt) e
+    ∙ by_over (refuses_first begun first) (refuses_second first second) size (nat_le (2 ^ 63)) (is_over max begun first) (body_of begun (with_size first second (Some (size, rest)))) s.two.fine s.second_fine lt e
 
 -- how few octets are there where a part is not whole
 number_short : (w : Width) (octets : List ℕ) → number_at w octets ≡ None → length octets < byte_len w
@@ -162,10 +163,6 @@ size_absent max begun raw first second octets t f e = (
       ∙ none_yet (refuses_first begun first) (refuses_second first second) (nat_le (2 ^ 63)) (is_over max begun first) more t.fine f,
   let n : length raw ≡ suc (suc (length octets)) = ap length t.is in let h = size_short second octets e in omega arith,
 )
-
-abbrev size_part : Option (ℕ × List ℕ) → ℕ
-size_part None = 0
-size_part (Some part) = part.0
 
 abbrev rest_part : Option (ℕ × List ℕ) → List ℕ
 rest_part None = []
@@ -205,7 +202,7 @@ masked_of first second e = by_test (is_masked second) (is_control (opcode_of fir
 -- no part up to the size is refused
 pub record Fine (max : ℕ) (begun : Option Begun) (raw : List ℕ) (first second : ℕ) (octets : List ℕ) (size : ℕ) (rest : List ℕ) : Type 0 where
   pub sized : Sized begun raw first second octets size rest
-  pub low : size < 2 ^ 63
+  pub low : nat_le (2 ^ 63) size ≡ false
   pub fits : is_over max begun first size ≡ false
 
 key_at_four : (second : ℕ) (octets : List ℕ) → is_masked second ≡ true → key_at second octets ≡ octets_at 4 octets
@@ -215,7 +212,7 @@ at_key : (max : ℕ) (begun : Option Begun) (raw : List ℕ) (first second : ℕ
     → front_at max begun raw ≡ body_of begun (with_key first second size part)
 at_key max begun raw first second octets size rest part f e =
     at_two max begun raw first second octets (Some (size, rest)) f.sized.two f.sized.size_is
-    ∙ none_at_all (refuses_first begun first) (refuses_second first second) size (nat_le (2 ^ 63)) (is_over max begun first) (body_of begun (with_size first second (Some (size, rest)))) f.sized.two.fine f.sized.second_fine (lt-leb (2 ^ 63) size f.low) f.fits
+    ∙ none_at_all (refuses_first begun first) (refuses_second first second) size (nat_le (2 ^ 63)) (is_over max begun first) (body_of begun (with_size first second (Some (size, rest)))) f.sized.two.fine f.sized.second_fine f.low f.fits
     ∙ ap (λ p. body_of begun (with_key first second size p)) (key_at_four second rest (masked_of first second f.sized.second_fine) ∙ e)
 
 pub key_absent : (max : ℕ) (begun : Option Begun) (raw : List ℕ) (first second : ℕ) (octets : List ℕ) (size : ℕ) (rest : List ℕ) → Fine max begun raw first second octets size rest → length rest < 4
@@ -241,17 +238,12 @@ fine_grown max begun raw first second octets size rest ys f = record {
   fits = f.fits;
 }
 
--- a control frame's size stands in its second octet
-control_short : (first second : ℕ) (octets : List ℕ) → refuses_second first second ≡ false → is_control (opcode_of first) ≡ true → (seven_bits second < 126) × (size_at second octets ≡ Some (seven_bits second, octets))
-control_short first second octets e control = elim (cases_lt (seven_bits second) 126) [
-  | inl low ↦ (low, rw (ne_eqb (seven_bits second) 126 (omega arith), ne_eqb (seven_bits second) 127 (omega arith)) refl)
-  | inr high ↦ absurd (by_test (is_masked second) (is_control (opcode_of first)) (nat_le 126 (seven_bits second)) e control (le-leb 126 (seven_bits second) high))
-] where
-  by_test : (masked control long : Bool) → (not masked || (control && long)) ≡ false → control ≡ true → long ≡ true → ⊥
-  by_test false control long e c l = cc
-  by_test true false long e c l = cc
-  by_test true true false e c l = cc
-  by_test true true true e c l = cc
+-- a first octet that is not refused
+first_parts : (bit reserved control turn : Bool) → (bit || reserved || control || turn) ≡ false → (reserved ≡ false) × (turn ≡ false)
+first_parts false false false turn e = (refl, e)
+first_parts false false true turn e = absurd cc
+first_parts false true control turn e = absurd cc
+first_parts true reserved control turn e = absurd cc
 
 data_fits : (max : ℕ) (begun : Option Begun) (first size : ℕ) → is_over max begun first size ≡ false → is_data (opcode_of first) ≡ true → length (begun_octets begun) + size ≤ max
 data_fits max begun first size e d = elim (cases_lt max (length (begun_octets begun) + size)) [
@@ -272,6 +264,7 @@ whole_header max begun raw first second octets size rest key after h f k a n hf 
     let p = size_past second octets size rest f.sized.size_is in
     let few = p.few in let within = p.within in
     let raw_is : raw ≡ first ∷ second ∷ octets = f.sized.two.is in
+    let parts = first_parts (has_reserved_bit first) (is_reserved (opcode_of first)) (is_control (opcode_of first) && not (is_final first)) (is_out_of_turn begun (opcode_of first)) f.sized.two.fine in
     let long : length raw ≡ suc (suc (length octets)) = ap length raw_is in
     let left : length rest ≡ length octets - p.count = ap length p.is ∙ length-drop p.count octets in
     let used : h.length ≡ 2 + p.count + 4 = omega arith in
@@ -292,6 +285,8 @@ whole_header max begun raw first second octets size rest key after h f k a n hf 
           let same_rest : rest ≡ octets = ap rest_part (sym f.sized.size_is ∙ s.1) in
           let short = s.0 in
           (omega (arith, ap length same_rest), omega arith);
+      known = ap is_reserved ho ∙ parts.0;
+      in_turn = ap (is_out_of_turn begun) ho ∙ parts.1;
       data_fits = λ d. let x = data_fits max begun first size f.fits (sym (ap is_data ho) ∙ d) in omega arith;
     }
   where

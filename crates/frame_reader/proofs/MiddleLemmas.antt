@@ -9,7 +9,7 @@ use Rattle.wire_meaning.specs.Text.{is_text_front}
 use Rattle.wire_meaning.specs.Event.{failed}
 use Rattle.wire_meaning.specs.Reading.{more, ends, is_text, data_front}
 use Rattle.wire_meaning.proofs.MaskLemmas.{unmasked-append, unmasked_turned}
-use Rattle.wire_meaning.proofs.GrowthLemmas.{not_front}
+use Rattle.wire_meaning.proofs.TextFront.{not_front}
 use Rattle.frame_reader.specs.Middle.{Middle, middle_front, moved}
 
 same_test : (n k left : ℕ) → n ≤ left → (n + k == left) ≡ (k == left - n)

@@ -1,26 +1,22 @@
 -- What holds of any reader's raw octets, and of a reader that is unread.
-use Rattle.std.proofs.Common.{◌≡◌, ℕ, ◌+◌, true, false, List, ◌++◌, length, Some, None, refl, ap, arith, length-drop}
+use Rattle.std.proofs.Common.{◌≡◌, ℕ, ◌+◌, true, List, ◌++◌, length, Some, None, refl, ap, arith, length-drop}
 use Rattle.wire_meaning.specs.Reading.{reading}
 use Rattle.frame_reader.specs.declared.reader.Reader.{Reader}
 use Rattle.frame_reader.specs.declared.reader.State.{State}
-use Rattle.frame_reader.specs.declared.reader.State.TheVariants.{Before, Within, Ended}
+use Rattle.frame_reader.specs.declared.reader.State.TheVariants.{AtFrameStart, InDataFrame, Ended}
 use Rattle.frame_reader.specs.State.{coming}
-use Rattle.frame_reader.specs.Reader.{raw_of, max_of, room_of, ahead, has_ended, is_end, is_at_start, is_unread}
+use Rattle.frame_reader.specs.Reader.{raw_of, max_of, room_of, ahead, is_at_start, is_unread}
 
 -- the raw octets and the room for more are together what fits
 pub room_and_raw : (r : Reader) → room_of r + length (raw_of r) ≡ max_of r + 8448
 room_and_raw r = let full = r.raw.ok.0 in let fits = r.raw_fits in omega (arith, length-drop r.start r.raw.items)
 
-starts : (state : State) → is_at_start state ≡ true → state ≡ Before None
-starts (Before None) e = refl
-starts (Before (Some kind)) e = absurd cc
-starts (Within kind frame) e = absurd cc
+starts : (state : State) → is_at_start state ≡ true → state ≡ AtFrameStart None
+starts (AtFrameStart None) e = refl
+starts (AtFrameStart (Some kind)) e = absurd cc
+starts (InDataFrame kind frame) e = absurd cc
 starts Ended e = absurd cc
 
 -- what is ahead of a reader that is unread
 pub unread_ahead : (r : Reader) → is_unread r ≡ true → (more : List ℕ) → ahead r more ≡ reading (max_of r) (raw_of r ++ more)
 unread_ahead r e more = ap (λ s. coming r.max_message s r.message.items (raw_of r ++ more)) (starts r.state e)
-
--- a reader that is unread goes on
-pub unread_goes_on : (r : Reader) → is_unread r ≡ true → has_ended r ≡ false
-unread_goes_on r e = ap is_end (starts r.state e)

@@ -9,15 +9,15 @@ use Rattle.wire_meaning.specs.Reading.{ends, opens, gives, is_text, data_front, 
 use Rattle.frame_reader.specs.declared.data_frame.DataFrame.{DataFrame}
 use Rattle.ws_kinds.specs.declared.kind.Kind.{Kind}
 use Rattle.frame_reader.specs.declared.reader.State.{State}
-use Rattle.frame_reader.specs.declared.reader.State.TheVariants.{Within}
+use Rattle.frame_reader.specs.declared.reader.State.TheVariants.{InDataFrame}
 use Rattle.frame_reader.specs.Middle.{Middle, middle_front}
 use Rattle.frame_reader.specs.State.{middle_of, coming}
 use Rattle.frame_reader.proofs.MiddleLemmas.{middle_whole, middle_waits, bad_fails}
 
 -- what comes in a frame
-pub coming_within : (max : ℕ) (state : State) (kind : Kind) (frame : DataFrame) (all octets : List ℕ) → state ≡ Within kind frame
+pub coming_in_frame : (max : ℕ) (state : State) (kind : Kind) (frame : DataFrame) (all octets : List ℕ) → state ≡ InDataFrame kind frame
     → coming max state all octets ≡ events_from (reads max) (middle_front (middle_of kind frame all) octets)
-coming_within max state kind frame all octets e = ap (λ s. coming max s all octets) e
+coming_in_frame max state kind frame all octets e = ap (λ s. coming max s all octets) e
 
 pub text_fails : (max : ℕ) (m : Middle) (octets : List ℕ) → (is_text m.kind && not (is_text_front m.all)) ≡ true → events_from (reads max) (middle_front m octets) ≡ failed 1007 ∷ []
 text_fails max m octets e = ap (events_from (reads max)) (bad_fails m octets e)

@@ -2,6 +2,6 @@ pub mod Middle
 pub mod Header
 pub mod State
 pub mod Reader
-pub mod Turn
+pub mod Parsed
 pub mod Close
 pub mod Step

@@ -3,7 +3,7 @@ use Rattle.std.specs.Prelude.{ℕ, ◌+◌, ◌-◌, Bool, true, false, List, �
 use Rattle.wire_meaning.specs.Event.{Event}
 use Rattle.frame_reader.specs.declared.reader.Reader.{Reader}
 use Rattle.frame_reader.specs.declared.reader.State.{State}
-use Rattle.frame_reader.specs.declared.reader.State.TheVariants.{Before, Within, Ended}
+use Rattle.frame_reader.specs.declared.reader.State.TheVariants.{AtFrameStart, InDataFrame, Ended}
 use Rattle.frame_reader.specs.State.{coming}
 
 -- the octets that came and were not taken yet
@@ -23,8 +23,8 @@ abbrev pub room_of : Reader → ℕ
 room_of reader = reader.max_message + 8448 - length (raw_of reader)
 
 abbrev pub is_end : State → Bool
-is_end (Before kind) = false
-is_end (Within kind frame) = false
+is_end (AtFrameStart kind) = false
+is_end (InDataFrame kind frame) = false
 is_end Ended = true
 
 -- a close or a failure was told
@@ -33,9 +33,9 @@ has_ended reader = is_end reader.state
 
 -- before a frame, with no message open
 abbrev pub is_at_start : State → Bool
-is_at_start (Before None) = true
-is_at_start (Before (Some kind)) = false
-is_at_start (Within kind frame) = false
+is_at_start (AtFrameStart None) = true
+is_at_start (AtFrameStart (Some kind)) = false
+is_at_start (InDataFrame kind frame) = false
 is_at_start Ended = false
 
 -- No frame is begun, no message is open, and no close or failure was told. What is ahead is then the reading of the

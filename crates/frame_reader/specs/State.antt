@@ -5,20 +5,20 @@ use Rattle.wire_meaning.specs.Event.{Event}
 use Rattle.wire_meaning.specs.Reading.{Begun, is_text, events_from, reads}
 use Rattle.frame_reader.specs.declared.data_frame.DataFrame.{DataFrame}
 use Rattle.frame_reader.specs.declared.reader.State.{State}
-use Rattle.frame_reader.specs.declared.reader.State.TheVariants.{Before, Within, Ended}
+use Rattle.frame_reader.specs.declared.reader.State.TheVariants.{AtFrameStart, InDataFrame, Ended}
 use Rattle.frame_reader.specs.Middle.{Middle, middle_front}
 
 -- the payload octets that are still to come
 abbrev pub left_of : State → ℕ
-left_of (Before kind) = 0
-left_of (Within kind frame) = frame.left
+left_of (AtFrameStart kind) = 0
+left_of (InDataFrame kind frame) = frame.left
 left_of Ended = 0
 
 -- a text is open
 abbrev pub is_text_open : State → Bool
-is_text_open (Before None) = false
-is_text_open (Before (Some kind)) = is_text kind
-is_text_open (Within kind frame) = is_text kind
+is_text_open (AtFrameStart None) = false
+is_text_open (AtFrameStart (Some kind)) = is_text kind
+is_text_open (InDataFrame kind frame) = is_text kind
 is_text_open Ended = false
 
 -- the open message, of this kind and with these octets
@@ -32,12 +32,12 @@ middle_of kind frame all = record { final = frame.is_final; kind = kind; all = a
 
 -- what is told of these octets, where the message has those
 abbrev pub coming : ℕ → State → List ℕ → List ℕ → List Event
-coming max (Before kind) message octets = reads max (begun_of kind message) octets
-coming max (Within kind frame) message octets = events_from (reads max) (middle_front (middle_of kind frame message) octets)
+coming max (AtFrameStart kind) message octets = reads max (begun_of kind message) octets
+coming max (InDataFrame kind frame) message octets = events_from (reads max) (middle_front (middle_of kind frame message) octets)
 coming max Ended message octets = []
 
--- what falls with each turn, beside the octets
+-- what falls with each part that tells nothing, beside the octets
 abbrev pub weight : State → ℕ
-weight (Before kind) = 1
-weight (Within kind frame) = 2
+weight (AtFrameStart kind) = 1
+weight (InDataFrame kind frame) = 2
 weight Ended = 0

@@ -1,6 +1,6 @@
 //! Data frames whose payload comes in pieces.
 
-ghost use Rattle.std.specs.Prelude.{◌≡◌, ◌<◌};
+ghost use Rattle.std.specs.Prelude.{◌≡◌, ◌<◌, ◌≤◌, ◌+◌, ◌-◌, ◌%◌};
 
 use crate::header::FrameHeader;
 
@@ -31,6 +31,23 @@ impl DataFrame {
             left: header.size,
             key,
             place: 0,
+        }
+    }
+
+    /// The frame when so many more octets of its payload were taken.
+    pub fn after(self, count: usize) -> DataFrame
+        requires { count ≤ self.left }
+        ensures is_final { result.is_final ≡ self.is_final }
+        ensures left { result.left ≡ self.left - count }
+        ensures key { result.key ≡ self.key }
+        ensures place { result.place ≡ (self.place + count) % 4 }
+    {
+        let key = self.key;
+        DataFrame {
+            is_final: self.is_final,
+            left: self.left - count,
+            key,
+            place: (self.place + count % 4) % 4,
         }
     }
 }

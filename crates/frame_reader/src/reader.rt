@@ -13,7 +13,7 @@ ghost use Rattle.frame_reader.specs.Header.{kind_in, Describes, IsHeader};
 ghost use Rattle.frame_reader.specs.Close.{CloseIs};
 
 use crate::data_frame::DataFrame;
-use crate::header::{Before, FrameHeader, Header, header_at};
+use crate::header::{FrameHeader, Header, MessageState, header_at};
 use crate::mask::unmask;
 use crate::step::Step;
 use frame_writer::{Closing, close_of};
@@ -22,24 +22,30 @@ use utf8_stream::{Text, Utf8};
 use wire_meaning::{Opcode, is_control};
 use ws_kinds::Kind;
 
-/// How many raw octets fit beside the octets of a message.
-const SPARE: usize = 8448;
+/// The most octets of one read, which fit beside those of a message.
+const LONGEST_READ: usize = 8192;
 
-/// Where a reader stands.
+/// More octets than are left where the octets that came tell nothing more, which are at most 130.
+const LEFT: usize = 256;
+
+/// How many raw octets fit beside the octets of a message.
+const SPARE: usize = LONGEST_READ + LEFT;
+
+/// What the next raw octet is to a reader.
 #[derive(Clone, Copy)]
 enum State {
-    /// Before a frame; the kind of the open message, if one is open.
-    Before(Option<Kind>),
-    /// In the payload of a data frame, which belongs to a message of this kind.
-    Within(Kind, DataFrame),
-    /// After a close or a failure.
+    /// The first of a frame; the kind of the open message, if one is open.
+    AtFrameStart(Option<Kind>),
+    /// One of the payload of a data frame, or behind it. The frame belongs to a message of this kind.
+    InDataFrame(Kind, DataFrame),
+    /// Nothing, since a close or a failure was told.
     Ended,
 }
 
 /// An event without its octets: a message's are in `message`, and the others' are the last of the raw ones that were
 /// taken, so many of them.
 #[derive(Clone, Copy, Debug)]
-enum Told {
+enum EventSpan {
     Message(Kind),
     Ping(usize),
     Pong(usize),
@@ -47,22 +53,24 @@ enum Told {
     Failed(u16),
 }
 
-/// What one turn did.
+/// What became of one part of the octets: of a header, a control frame, or payload octets of a data frame.
 #[derive(Clone, Copy, Debug)]
-enum Turn {
-    /// The octets that came tell nothing more.
-    Wait,
-    /// It went on, and told nothing.
-    Again,
-    Told(Told),
+enum Parsed {
+    /// It has not all come, and the octets that came tell nothing more.
+    Incomplete,
+    /// It was taken, and told nothing.
+    Part,
+    /// It was taken, and told this.
+    Event(EventSpan),
 }
 
 /// Reads the octets of one connection as they come, and tells their events one by one (RFC 6455, sections 5.4, 5.5
 /// and 8.1).
 ///
-/// A part of a frame is judged as soon as its octets are there, and the text of a message as its octets come. Each
-/// octet is checked once, and is moved once, into the message that it belongs to; those that [`Reader::feed`] finds in
-/// its way, at most 130 where [`Reader::next`] was called until `More`, are moved once more.
+/// A part of a frame is judged as soon as its octets are there, and the text of a message as its octets come. The octets of a
+/// character that has not ended, three at most, are looked at again with each further piece of the text, until it ends. The
+/// payload of a data frame is moved once, into its message; the octets that [`Reader::feed`] finds in its way, at most 130
+/// where [`Reader::next`] was called until `More`, are moved once more.
 #[derive(Drop)]
 pub struct Reader {
     max_message: u32,
@@ -83,13 +91,13 @@ pub struct Reader {
 }
 
 /// What the payload of a close frame says, by how many octets its reason has.
-fn close_told(payload: &[u8]) -> Told
+fn close_span(payload: &[u8]) -> EventSpan
     ensures { CloseIs result payload.now }
 {
     match close_of(payload) {
-        Closing::Empty => Told::Close(1005, 0),
-        Closing::Code(code) => Told::Close(code, payload.len().saturating_sub(2)),
-        Closing::Bad(code) => Told::Failed(code),
+        Closing::Empty => EventSpan::Close(1005, 0),
+        Closing::Code(code) => EventSpan::Close(code, payload.len().saturating_sub(2)),
+        Closing::Bad(code) => EventSpan::Failed(code),
     }
 }
 
@@ -134,9 +142,7 @@ fn append_unmasked(message: &mut Vec<u8>, octets: &[u8], key: [u8; 4], place: us
     ensures capacity { vec_capacity message.old ≤ vec_capacity message.new }
 {
     let held = message.len();
-    if message.extend_from_slice(octets).is_err() {
-        unreachable!();
-    }
+    message.extend_from_slice(octets).unwrap();
     unmask(&mut message[held..], key, place);
 }
 
@@ -152,14 +158,14 @@ fn unmask_part(octets: &mut Vec<u8>, from: usize, to: usize, key: [u8; 4])
 }
 
 /// Keeps the octets of the open message and their check, where one is open.
-fn go_on_with(message: &mut Vec<u8>, utf8: &mut Utf8, before: Option<Kind>)
-    ensures items { message.new.items ≡ begun_octets (begun_of before message.old.items) }
-    ensures len { vec_len message.new ≡ length (begun_octets (begun_of before message.old.items)) }
+fn go_on_with(message: &mut Vec<u8>, utf8: &mut Utf8, open_kind: Option<Kind>)
+    ensures items { message.new.items ≡ begun_octets (begun_of open_kind message.old.items) }
+    ensures len { vec_len message.new ≡ length (begun_octets (begun_of open_kind message.old.items)) }
     ensures capacity { vec_capacity message.new ≡ vec_capacity message.old }
-    ensures fresh { before ≡ None → Follows utf8.new [] }
-    ensures kept { IsSome before → utf8.new ≡ utf8.old }
+    ensures fresh { open_kind ≡ None → Follows utf8.new [] }
+    ensures kept { IsSome open_kind → utf8.new ≡ utf8.old }
 {
-    if before.is_none() {
+    if open_kind.is_none() {
         message.clear();
         *utf8 = Utf8::new();
     }
@@ -167,7 +173,7 @@ fn go_on_with(message: &mut Vec<u8>, utf8: &mut Utf8, before: Option<Kind>)
 
 impl Reader {
     ghost use Rattle.frame_reader.specs.Reader.{raw_of, max_of, ahead, room_of, has_ended, is_unread};
-    ghost use Rattle.frame_reader.specs.Turn.{Tells, TurnIs, Keeps, Waits, HasTold, last, burden};
+    ghost use Rattle.frame_reader.specs.Parsed.{Tells, ParsedIs, Keeps, AwaitsOctets, HasEvent, last, burden};
     ghost use Rattle.frame_reader.specs.Step.{RestsStepped};
 
     /// A reader to which no octets came, for messages of at most `max_message` octets, all fragments together.
@@ -184,7 +190,7 @@ impl Reader {
     {
         Ok(Reader {
             max_message,
-            state: State::Before(None),
+            state: State::AtFrameStart(None),
             raw: Vec::with_capacity(alloc, max_message as usize + SPARE)?,
             start: 0,
             message: Vec::with_capacity(alloc, max_message as usize)?,
@@ -214,9 +220,7 @@ impl Reader {
         if self.raw.len() + octets.len() > self.max_message as usize + SPARE {
             self.settle();
         }
-        if self.raw.extend_from_slice(octets).is_err() {
-            unreachable!();
-        }
+        self.raw.extend_from_slice(octets).unwrap();
     }
 
     /// The octets that came and were not taken yet.
@@ -265,8 +269,8 @@ impl Reader {
     /// Takes the octets of the frame's payload that came, and goes on in the frame. Says what they are with the
     /// message's octets before them, where it is text.
     fn take_payload(&mut self, kind: Kind, frame: DataFrame) -> (DataFrame, Text)
-        requires { self.old.state ≡ State.Within kind frame }
-        ensures state { self.new.state ≡ State.Within kind result.0 }
+        requires { self.old.state ≡ State.InDataFrame kind frame }
+        ensures state { self.new.state ≡ State.InDataFrame kind result.0 }
         ensures tells { Tells self.old [] self.new }
         ensures kept { Keeps self.old self.new }
         ensures taken { length (raw_of self.new) ≡ 0 ⊎ result.0.left ≡ 0 }
@@ -284,176 +288,171 @@ impl Reader {
             frame.place,
         );
         let text = check_text(kind, &mut self.utf8, &self.message[held..]);
-        let mut frame = frame;
-        frame.left -= count;
-        frame.place = (frame.place + count % 4) % 4;
+        let next = frame.after(count);
         self.start = to;
-        self.state = State::Within(kind, frame);
-        (frame, text)
+        self.state = State::InDataFrame(kind, next);
+        (next, text)
     }
 
-    /// Judges the frame behind the payload that came, with which a text can still become UTF-8.
-    fn judge(&mut self, kind: Kind, frame: DataFrame) -> Turn
-        requires state { self.old.state ≡ State.Within kind frame }
+    /// Ends the frame whose payload octets were taken, if these are all, with which a text can still become UTF-8.
+    fn end_payload(&mut self, kind: Kind, frame: DataFrame) -> Parsed
+        requires state { self.old.state ≡ State.InDataFrame kind frame }
         requires taken { length (raw_of self.old) ≡ 0 ⊎ frame.left ≡ 0 }
         requires text { (is_text kind && not (is_text_front self.old.message.items)) ≡ false }
-        ensures turn { TurnIs result self.old self.new }
+        ensures parsed { ParsedIs result self.old self.new }
         ensures kept { Keeps self.old self.new }
     {
         if frame.left > 0 {
-            return Turn::Wait;
+            return Parsed::Incomplete;
         }
         if !frame.is_final {
-            self.state = State::Before(Some(kind));
-            return Turn::Again;
+            self.state = State::AtFrameStart(Some(kind));
+            return Parsed::Part;
         }
         if ends_badly(kind, &self.utf8) {
             self.state = State::Ended;
-            return Turn::Told(Told::Failed(1007));
+            return Parsed::Event(EventSpan::Failed(1007));
         }
-        self.state = State::Before(None);
-        Turn::Told(Told::Message(kind))
+        self.state = State::AtFrameStart(None);
+        Parsed::Event(EventSpan::Message(kind))
     }
 
-    /// Takes the payload that came, and judges the frame.
-    fn payload_turn(&mut self, kind: Kind, frame: DataFrame) -> Turn
-        requires state { self.old.state ≡ State.Within kind frame }
-        ensures turn { TurnIs result self.old self.new }
+    /// Takes the payload octets that came, and ends the frame if these are all.
+    fn parse_payload(&mut self, kind: Kind, frame: DataFrame) -> Parsed
+        requires state { self.old.state ≡ State.InDataFrame kind frame }
+        ensures parsed { ParsedIs result self.old self.new }
         ensures kept { Keeps self.old self.new }
     {
         let (frame, text) = self.take_payload(kind, frame);
         match text {
-            Text::Front => self.judge(kind, frame),
+            Text::Front => self.end_payload(kind, frame),
             Text::Bad => {
                 self.state = State::Ended;
-                Turn::Told(Told::Failed(1007))
+                Parsed::Event(EventSpan::Failed(1007))
             }
         }
     }
 
     /// Goes into the data frame that this header begins.
-    fn enter(&mut self, before: Option<Kind>, kind: Kind, header: FrameHeader)
-        requires state { self.old.state ≡ State.Before before }
-        requires kind { kind_in before header.opcode ≡ Some kind }
-        requires header { IsHeader self.old.max_message (begun_of before self.old.message.items) (raw_of self.old) header }
-        ensures turn { TurnIs Turn.Again self.old self.new }
+    fn enter(&mut self, open_kind: Option<Kind>, kind: Kind, header: FrameHeader)
+        requires state { self.old.state ≡ State.AtFrameStart open_kind }
+        requires kind { kind_in open_kind header.opcode ≡ Some kind }
+        requires header { IsHeader self.old.max_message (begun_of open_kind self.old.message.items) (raw_of self.old) header }
+        ensures parsed { ParsedIs Parsed.Part self.old self.new }
         ensures kept { Keeps self.old self.new }
     {
-        go_on_with(&mut self.message, &mut self.utf8, before);
+        go_on_with(&mut self.message, &mut self.utf8, open_kind);
         self.start += header.length;
-        self.state = State::Within(kind, DataFrame::new(header));
+        self.state = State::InDataFrame(kind, DataFrame::new(header));
     }
 
-    /// Reads the control frame behind this header, once its payload is whole.
-    fn control_turn(&mut self, before: Option<Kind>, header: FrameHeader) -> Turn
-        requires state { self.old.state ≡ State.Before before }
+    /// Takes the control frame that this header begins, once its payload is whole.
+    fn parse_control_frame(&mut self, open_kind: Option<Kind>, header: FrameHeader) -> Parsed
+        requires state { self.old.state ≡ State.AtFrameStart open_kind }
         requires control { is_control header.opcode ≡ true }
-        requires header { IsHeader self.old.max_message (begun_of before self.old.message.items) (raw_of self.old) header }
-        ensures turn { TurnIs result self.old self.new }
+        requires header { IsHeader self.old.max_message (begun_of open_kind self.old.message.items) (raw_of self.old) header }
+        ensures parsed { ParsedIs result self.old self.new }
         ensures kept { Keeps self.old self.new }
     {
         let from = self.start + header.length;
         let to = from + header.size;
         if self.raw.len() < to {
-            return Turn::Wait;
+            return Parsed::Incomplete;
         }
         unmask_part(&mut self.raw, from, to, header.key);
         self.start = to;
         match header.opcode {
-            Opcode::Ping => Turn::Told(Told::Ping(header.size)),
-            Opcode::Pong => Turn::Told(Told::Pong(header.size)),
+            Opcode::Ping => Parsed::Event(EventSpan::Ping(header.size)),
+            Opcode::Pong => Parsed::Event(EventSpan::Pong(header.size)),
             _ => {
                 self.state = State::Ended;
-                Turn::Told(close_told(&self.raw[from..to]))
+                Parsed::Event(close_span(&self.raw[from..to]))
             }
         }
     }
 
     /// Goes on behind a header that is whole.
-    fn frame_turn(&mut self, before: Option<Kind>, header: FrameHeader) -> Turn
-        requires state { self.old.state ≡ State.Before before }
-        requires header { IsHeader self.old.max_message (begun_of before self.old.message.items) (raw_of self.old) header }
-        ensures turn { TurnIs result self.old self.new }
+    fn parse_frame(&mut self, open_kind: Option<Kind>, header: FrameHeader) -> Parsed
+        requires state { self.old.state ≡ State.AtFrameStart open_kind }
+        requires header { IsHeader self.old.max_message (begun_of open_kind self.old.message.items) (raw_of self.old) header }
+        ensures parsed { ParsedIs result self.old self.new }
         ensures kept { Keeps self.old self.new }
     {
         if is_control(header.opcode) {
-            return self.control_turn(before, header);
+            return self.parse_control_frame(open_kind, header);
         }
-        match kind_in(before, header.opcode) {
+        match kind_in(open_kind, header.opcode) {
             Some(kind) => {
-                self.enter(before, kind, header);
-                Turn::Again
+                self.enter(open_kind, kind, header);
+                Parsed::Part
             }
-            None => {
-                self.state = State::Ended;
-                Turn::Told(Told::Failed(1002))
-            }
+            None => unreachable!(),
         }
     }
 
-    /// Reads the header at the front of the raw octets.
-    fn header_turn(&mut self, kind: Option<Kind>) -> Turn
-        requires state { self.old.state ≡ State.Before kind }
-        ensures turn { TurnIs result self.old self.new }
+    /// Reads the header at the front of the raw octets, and the frame behind it.
+    fn parse_header(&mut self, open_kind: Option<Kind>) -> Parsed
+        requires state { self.old.state ≡ State.AtFrameStart open_kind }
+        ensures parsed { ParsedIs result self.old self.new }
         ensures kept { Keeps self.old self.new }
     {
-        let before = self.before(kind);
-        match header_at(before, self.raw()) {
-            Header::More => Turn::Wait,
+        let message = self.message_state(open_kind);
+        match header_at(message, self.raw()) {
+            Header::More => Parsed::Incomplete,
             Header::Refused(code) => {
                 self.state = State::Ended;
-                Turn::Told(Told::Failed(code))
+                Parsed::Event(EventSpan::Failed(code))
             }
-            Header::Whole(header) => self.frame_turn(kind, header),
+            Header::Whole(header) => self.parse_frame(open_kind, header),
         }
     }
 
-    /// What the next frame is judged by, where a message of this kind is open.
-    fn before(&self, kind: Option<Kind>) -> Before
+    /// What the next frame is checked against, where a message of this kind is open.
+    fn message_state(&self, open_kind: Option<Kind>) -> MessageState
         ensures max { result.max_message ≡ self.now.max_message }
-        ensures describes { Describes result (begun_of kind self.now.message.items) }
+        ensures describes { Describes result (begun_of open_kind self.now.message.items) }
     {
-        Before {
+        MessageState {
             max_message: self.max_message,
-            kind,
-            held: match kind {
+            kind: open_kind,
+            held: match open_kind {
                 Some(_) => self.message.len(),
                 None => 0,
             },
         }
     }
 
-    /// One turn: a header, a control frame, or the payload of a data frame.
-    fn turn(&mut self) -> Turn
+    /// Takes the next part: a header, a control frame, or payload octets of a data frame.
+    fn parse_part(&mut self) -> Parsed
         requires { has_ended self.old ≡ false }
-        ensures turn { TurnIs result self.old self.new }
+        ensures parsed { ParsedIs result self.old self.new }
         ensures kept { Keeps self.old self.new }
     {
         match self.state {
-            State::Ended => Turn::Wait,
-            State::Before(kind) => self.header_turn(kind),
-            State::Within(kind, frame) => self.payload_turn(kind, frame),
+            State::Ended => Parsed::Incomplete,
+            State::AtFrameStart(open_kind) => self.parse_header(open_kind),
+            State::InDataFrame(kind, frame) => self.parse_payload(kind, frame),
         }
     }
 
     /// Goes on until an event is told, or the octets that came give no further one.
-    fn advance(&mut self) -> Option<Told>
-        ensures told { IfSome result (λ told. HasTold told self.old self.new) }
+    fn advance(&mut self) -> Option<EventSpan>
+        ensures event { IfSome result (λ event. HasEvent event self.old self.new) }
         ensures tells { IfNone result (Tells self.old [] self.new) }
         ensures all { IfNone result (ahead self.new [] ≡ []) }
         ensures few { IfNone result (has_ended self.old ≡ false → length (raw_of self.new) ≤ 130) }
         ensures same { IfNone result (has_ended self.new ≡ has_ended self.old) }
-        ensures went_on { IfSome result (λ told. has_ended self.old ≡ false) }
+        ensures went_on { IfSome result (λ event. has_ended self.old ≡ false) }
         ensures kept { Keeps self.old self.new }
     {
-        'turns: loop {
+        'parts: loop {
             if matches!(self.state, State::Ended) {
                 return None;
             }
-            match self.turn() {
-                Turn::Wait => return None,
-                Turn::Again => {}
-                Turn::Told(told) => return Some(told),
+            match self.parse_part() {
+                Parsed::Incomplete => return None,
+                Parsed::Part => {}
+                Parsed::Event(event) => return Some(event),
             }
         }
     }
@@ -476,11 +475,11 @@ impl Reader {
     {
         match self.advance() {
             None => Step::More,
-            Some(Told::Message(kind)) => Step::Message(kind, &self.message),
-            Some(Told::Ping(size)) => Step::Ping(self.taken(size)),
-            Some(Told::Pong(size)) => Step::Pong(self.taken(size)),
-            Some(Told::Close(code, size)) => Step::Close(code, self.taken(size)),
-            Some(Told::Failed(code)) => Step::Failed(code),
+            Some(EventSpan::Message(kind)) => Step::Message(kind, &self.message),
+            Some(EventSpan::Ping(size)) => Step::Ping(self.taken(size)),
+            Some(EventSpan::Pong(size)) => Step::Pong(self.taken(size)),
+            Some(EventSpan::Close(code, size)) => Step::Close(code, self.taken(size)),
+            Some(EventSpan::Failed(code)) => Step::Failed(code),
         }
     }
 }

@@ -8,8 +8,10 @@ use std::test::*;
 use wire_meaning::{OwnedEvent, plain_reading};
 use ws_kinds::Kind;
 
+// The greatest message, in octets, where a test names none.
 const MAX: u32 = 16_384;
 
+/// The step tells this event.
 fn is_told(step: Step<'_>, event: &OwnedEvent) -> bool {
     match (step, event) {
         (Step::Message(kind, octets), OwnedEvent::Message(wanted, all)) => {
@@ -61,6 +63,7 @@ fn reads_as_plain(alloc: Global, pieces: &[&[u8]]) -> Result<bool, AllocError> {
     Ok(at == events.len())
 }
 
+/// A reader of these octets, one by one, tells the events of the plain reading of them.
 fn reads_octet_by_octet(alloc: Global, octets: &[u8]) -> Result<bool, AllocError> {
     let events = plain_reading(alloc, MAX, octets)?;
     let mut reader = Reader::new(alloc, MAX)?;
@@ -117,36 +120,6 @@ const ENDED: [&[u8]; 20] = [
     b"\x01\x81\0\0\0\0a\x88\x83\0\0\0\0\x03\xe8\xff\x80",
 ];
 
-#[test]
-fn every_cut_tells_the_plain_reading(rt: HostRuntime) {
-    for octets in KEPT.iter().chain(ENDED.iter()) {
-        for cut in 0..=octets.len() {
-            let (one, two) = octets.split_at(cut);
-            let same = reads_as_plain(rt.alloc(), &[one, b"", two]);
-            assert!(rt; matches!(same, Ok(true)), "{octets:?} at {cut}");
-        }
-    }
-}
-
-#[test]
-fn octet_by_octet_tells_the_plain_reading(rt: HostRuntime) {
-    for octets in KEPT.iter().chain(ENDED.iter()) {
-        let same = reads_octet_by_octet(rt.alloc(), octets);
-        assert!(rt; matches!(same, Ok(true)), "{octets:?}");
-    }
-}
-
-#[test]
-fn room_falls_by_what_came_and_rises_as_it_is_taken(rt: HostRuntime) -> Result<(), Fail> {
-    let mut reader = Reader::new(rt.alloc(), 5).ok().ok_or("memory")?;
-    assert_eq!(rt; reader.room(), 8453);
-    reader.feed(b"\x81\x85\0\0\0\0He");
-    assert_eq!(rt; reader.room(), 8445);
-    assert!(rt; matches!(reader.next(), Step::More));
-    assert_eq!(rt; reader.room(), 8453);
-    Ok(())
-}
-
 /// Takes as many of the octets as there is room for, which is one at least.
 fn feed_some(reader: &mut Reader, octets: &[u8]) -> usize
     requires few { length (raw_of reader.old) ≤ 8191 }
@@ -185,11 +158,44 @@ fn reads_behind_head(alloc: Global, octets: &[u8], cut: usize) -> Result<bool, A
     let Some((one, two)) = HEAD.split_at_checked(cut) else {
         return Ok(false);
     };
-    if octets.len() > 8192 || !skip_head(&mut reader, one, two, octets, HEAD.len()) {
+    if octets.len() > MAX as usize || !skip_head(&mut reader, one, two, octets, HEAD.len()) {
         return Ok(false);
     }
     let mut at = 0;
     Ok(tells_next(&mut reader, b"", &events, &mut at) && at == events.len())
+}
+
+/// Readers of these octets in two pieces, wherever they are cut, tell the plain reading of them.
+fn reads_each_cut(alloc: Global, octets: &[u8]) -> Result<bool, AllocError> {
+    for cut in 0..=octets.len() {
+        let (one, two) = octets.split_at(cut);
+        if !reads_as_plain(alloc, &[one, b"", two])? {
+            return Ok(false);
+        }
+    }
+    Ok(true)
+}
+
+/// Readers behind a head, wherever it is cut, tell the plain reading of these octets.
+fn reads_behind_each_cut(alloc: Global, octets: &[u8]) -> Result<bool, AllocError> {
+    for cut in 0..=HEAD.len() {
+        if !reads_behind_head(alloc, octets, cut)? {
+            return Ok(false);
+        }
+    }
+    Ok(true)
+}
+
+#[test]
+fn the_plain_reading_is_told(rt: HostRuntime) {
+    for octets in KEPT.iter().chain(ENDED.iter()) {
+        let whole = reads_each_cut(rt.alloc(), octets);
+        assert!(rt; matches!(whole, Ok(true)), "{octets:?}");
+        let single = reads_octet_by_octet(rt.alloc(), octets);
+        assert!(rt; matches!(single, Ok(true)), "{octets:?}");
+        let behind = reads_behind_each_cut(rt.alloc(), octets);
+        assert!(rt; matches!(behind, Ok(true)), "{octets:?}");
+    }
 }
 
 /// The next step is `More`, after which there is room.
@@ -222,14 +228,4 @@ fn a_head_in_three_pieces_is_seen_and_skipped(rt: HostRuntime) -> Result<(), Fai
     assert!(rt; matches!(reader.next(), Step::Message(Kind::Text, b"Hello")));
     assert!(rt; matches!(reader.next(), Step::More));
     Ok(())
-}
-
-#[test]
-fn behind_every_cut_of_a_head_the_plain_reading_is_told(rt: HostRuntime) {
-    for octets in KEPT.iter().chain(ENDED.iter()) {
-        for cut in 0..=HEAD.len() {
-            let same = reads_behind_head(rt.alloc(), octets, cut);
-            assert!(rt; matches!(same, Ok(true)), "{octets:?} at {cut}");
-        }
-    }
 }

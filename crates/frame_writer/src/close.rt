@@ -1,12 +1,11 @@
 //! Payloads of close frames.
 
 ghost use Rattle.std.specs.Prelude.{◌≡◌, ◌↔◌, ◌≤◌, [], length, IsTrue, IsUtf8};
-ghost use Rattle.std.specs.Str.{is_utf8};
 ghost use Rattle.wire_meaning.specs.Event.{closed, closing, is_sendable};
 ghost use Rattle.frame_writer.specs.Close.{close_octets, event_of, HasSendableCode};
 
 use arrayvec::ArrayVec;
-use std::str;
+use wire_meaning::{is_sendable, is_utf8};
 
 /// What the payload of a close frame says (RFC 6455, sections 5.5.1 and 7.4).
 #[derive(Clone, Copy, Debug, PartialEq, Eq)]
@@ -20,27 +19,6 @@ pub enum Closing {
     Bad(u16),
 }
 
-/// Whether a close frame may carry this code: 1000 to 1003, 1007 to 1014 and 3000 to 4999.
-///
-/// These are the codes defined for use in a frame, and those for libraries and private use (RFC 6455, section 7.4). The
-/// standard forbids 1005, 1006 and 1015 there and reserves 1004. That codes which nobody has defined yet, as 1016 to 2999, are
-/// refused too is the server's choice.
-pub fn sendable(code: u16) -> bool
-    ensures { result ≡ is_sendable code }
-{
-    matches!(code, 1000..=1003 | 1007..=1014 | 3000..=4999)
-}
-
-#[tactic(auto, using(wire_meaning::proofs::TextLemmas::utf8_tests))]
-fn is_text(octets: &[u8]) -> bool
-    ensures { result ≡ is_utf8 octets.now }
-{
-    match str::from_utf8(octets) {
-        Ok(_) => true,
-        Err(_) => false,
-    }
-}
-
 /// The payload of a close frame: the code in network order, and then the reason, UTF-8 of at most 123 octets.
 ///
 /// Whoever reads it is told this code and this reason.
@@ -52,8 +30,8 @@ pub fn close_payload(code: u16, reason: &[u8]) -> ArrayVec<u8, 125>
     ensures said { closing result.items ≡ closed code reason.now }
 {
     let mut payload = ArrayVec::new();
-    let _ = payload.try_extend_from_slice(&code.to_be_bytes());
-    let _ = payload.try_extend_from_slice(reason);
+    payload.try_extend_from_slice(&code.to_be_bytes()).unwrap();
+    payload.try_extend_from_slice(reason).unwrap();
     payload
 }
 
@@ -73,10 +51,10 @@ pub fn close_of(payload: &[u8]) -> Closing
         return Closing::Bad(1002);
     }
     let code = u16::from_be_bytes([payload[0], payload[1]]);
-    if !sendable(code) {
+    if !is_sendable(code) {
         return Closing::Bad(1002);
     }
-    if !is_text(&payload[2..]) {
+    if !is_utf8(&payload[2..]) {
         return Closing::Bad(1007);
     }
     Closing::Code(code)

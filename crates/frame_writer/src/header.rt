@@ -8,7 +8,7 @@ use arrayvec::ArrayVec;
 
 /// The header of an unmasked frame with FIN 1, whose payload has `length` octets (RFC 6455, section 5.2).
 ///
-/// `op` is the opcode's number: 1 text, 2 binary, 8 close, 9 ping, 10 pong. The length, at most 65,536, is spelled as short
+/// `op` is the number of the opcode, as `wire_meaning::opcode_number` says it, of a text, binary, close, ping or pong. The length, at most 65,536, is spelled as short
 /// as it can be, so the header has 2 octets below 126, 4 below 65,536 and 10 above. The payload follows it as it is.
 pub fn head_of(op: u8, length: usize) -> ArrayVec<u8, 10>
     requires opcode { IsTrue (is_sent_opcode op) }
@@ -22,10 +22,12 @@ pub fn head_of(op: u8, length: usize) -> ArrayVec<u8, 10>
         head.push(length as u8);
     } else if length < 65536 {
         head.push(126);
-        let _ = head.try_extend_from_slice(&(length as u16).to_be_bytes());
+        head.try_extend_from_slice(&(length as u16).to_be_bytes())
+            .unwrap();
     } else {
         head.push(127);
-        let _ = head.try_extend_from_slice(&(length as u64).to_be_bytes());
+        head.try_extend_from_slice(&(length as u64).to_be_bytes())
+            .unwrap();
     }
     head
 }

@@ -7,7 +7,7 @@
 mod close;
 mod header;
 
-pub use close::{Closing, close_of, close_payload, sendable};
+pub use close::{Closing, close_of, close_payload};
 pub use header::head_of;
 
 #[cfg(test)]

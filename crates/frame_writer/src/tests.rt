@@ -15,9 +15,7 @@ const HEADERS: [(u8, usize, &[u8]); 10] = [
     (2, 65536, b"\x82\x7f\0\0\0\0\x00\x01\x00\x00"),
 ];
 
-// The unmasked text of section 5.7.
-const HELLO: &[u8] = b"\x81\x05Hello";
-
+// Payloads of close frames, and what they say.
 const CLOSES: [(&[u8], Closing); 14] = [
     (b"", Closing::Empty),
     // one octet
@@ -39,23 +37,6 @@ const CLOSES: [(&[u8], Closing); 14] = [
     (b"\x03\xf6\xe2\x82\xac", Closing::Code(1014)),
 ];
 
-const CODES: [(u16, bool); 14] = [
-    (0, false),
-    (999, false),
-    (1000, true),
-    (1003, true),
-    (1004, false),
-    (1006, false),
-    (1007, true),
-    (1014, true),
-    (1015, false),
-    (2999, false),
-    (3000, true),
-    (4999, true),
-    (5000, false),
-    (65535, false),
-];
-
 #[test]
 fn headers(rt: HostRuntime) -> Result<(), Fail> {
     for (op, length, wanted) in HEADERS {
@@ -66,31 +47,10 @@ fn headers(rt: HostRuntime) -> Result<(), Fail> {
 }
 
 #[test]
-fn hello(rt: HostRuntime) -> Result<(), Fail> {
-    let head = head_of(1, 5);
-    assert!(rt; HELLO.starts_with(head.as_slice()) && HELLO.ends_with(b"Hello"));
-    assert_eq!(rt; head.len() + 5, HELLO.len());
-    Ok(())
-}
-
-#[test]
 fn closes(rt: HostRuntime) -> Result<(), Fail> {
     for (payload, wanted) in CLOSES {
         assert_eq!(rt; close_of(payload), wanted, "{payload:?}");
     }
-    Ok(())
-}
-
-#[test]
-fn codes(rt: HostRuntime) -> Result<(), Fail> {
-    for (code, wanted) in CODES {
-        assert_eq!(rt; sendable(code), wanted, "{code}");
-    }
-    Ok(())
-}
-
-#[test]
-fn payloads(rt: HostRuntime) -> Result<(), Fail> {
     let bare = close_payload(1000, b"");
     assert_eq!(rt; bare.as_slice(), b"\x03\xe8".as_slice());
     let going = close_payload(1001, b"going away");

@@ -1,5 +1,5 @@
--- What calls of a hub do, put together from what they do to the table, to the watch and to the net.
-use Rattle.std.proofs.Common.{◌≡◌, ◌≢◌, ◌<◌, ◌≤◌, ◌+◌, inl, inr, ℕ, List, [], ◌∷◌, ◌++◌, Option, Some, None, Bool, true, false, cond, not, is_some, ◌==◌, IsTrue, nat_eq, length, refl, sym, ap, ◌∙◌, subst, arith}
+-- What calls of a hub do, put together from what they do to the hub's state, to the watch and to the net.
+use Rattle.std.proofs.Common.{◌≡◌, ◌≢◌, ◌<◌, ◌≤◌, inl, inr, ℕ, List, [], ◌∷◌, ◌++◌, Option, Some, None, Bool, true, false, cond, not, is_some, ◌==◌, IsTrue, nat_eq, length, refl, sym, ap, ◌∙◌, subst, arith}
 use Rattle.std.proofs.lemmas.Bool.Decides.{nat_tests}
 use Rattle.std.specs.Int.{w16, to_be_bytes}
 use Rattle.ws_kinds.specs.declared.kind.Kind.{Kind}
@@ -16,27 +16,40 @@ use Rattle.wire_meaning.specs.Frame.{opcode_number}
 use Rattle.wire_meaning.specs.Answer.{Item, whole, close_item}
 use Rattle.frame_writer.specs.Header.{is_sent_opcode}
 use Rattle.run_meaning.specs.Notes.{is_of}
-use Rattle.run_meaning.specs.Lines.{is_open}
+use Rattle.run_meaning.specs.Lines.{is_open, topics_left}
+use Rattle.run_meaning.specs.Tell.{Tell, marked, nothing_told, tell_by}
+use Rattle.run_meaning.specs.Quiet.{QuietCount, new_count, one_heard}
 use Rattle.run_meaning.specs.Settled.{is_reading}
 use Rattle.hub_lines.specs.Told.{is_silent, is_dropped, ShortWhereHeld}
-use Rattle.hub_lines.specs.State.{HubState, Entry, PartingValue, Server, server, entry_at, no_entry, new_entry, is_gone, has_entry, entry_of, is_present, phase_at, numbered_at, pending_at, ring_at}
-use Rattle.hub_lines.specs.Calls.{KeepsLine, Starts, SameLinesElsewhere, nothing, served, Ties}
-use Rattle.hub_lines.proofs.EntryLemmas.{entry_added, entry_new, present_entry}
+use Rattle.hub_lines.specs.State.{HubState, Entry, PartingValue, Server, server, entry_at, no_entry, new_entry, is_gone, has_entry, entry_of, is_present, phase_at, cork_at, pending_at, ring_at}
+use Rattle.hub_lines.specs.Lines.{Held, held_at}
+use Rattle.hub_lines.specs.Calls.{KeepsLine, Starts, nothing, only, served, Ties}
+use Rattle.hub_lines.proofs.EntryLemmas.{entry_added, entry_new}
 use Rattle.hub_lines.proofs.LineLemmas.{line_gone, line_still}
-use Rattle.hub_lines.proofs.NetLemmas.{split_told}
-use Rattle.hub_lines.proofs.CallLemmas.{starts_of, keeps_note, short_silent}
-use Rattle.hub_notes.specs.Progress.{Progress, unless_gone, due_of, due_at, progress_at, progress_by, may_come}
+use Rattle.hub_lines.proofs.CallLemmas.{starts_of, lines_elsewhere_then}
+use Rattle.hub_notes.specs.Progress.{Progress, due_of, due_at, topics_at, progress_at, progress_by, may_come}
+use Rattle.hub_notes.specs.Tells.{tell_at}
+use Rattle.hub_notes.specs.Quiet.{CountsBy, counts_at, leaves_at}
+use Rattle.run_meaning.specs.Orders.{unless_gone}
 use Rattle.hub_notes.specs.Fronts.{KeepsFront}
-use Rattle.hub_notes.specs.Calls.{Proceeds, Appends}
+use Rattle.hub_notes.specs.Calls.{Appends}
 use Rattle.hub_notes.proofs.BoolLemmas.{by_cases, clash, or_left, or_right}
+use Rattle.hub_notes.proofs.NoteLemmas.{same_counts}
 use Rattle.hub_notes.proofs.CallLemmas.{proceeds_then, proceeds_first}
-use Rattle.hub_notes.proofs.FrontLemmas.{appends_same, appends_as}
-use Rattle.hub_table.specs.Table.{TableState, ChangesOne, IsTable, is_kept, TakesDue, table_of}
-use Rattle.hub_core.specs.State.{hub_of, server_of}
-use Rattle.hub_core.specs.declared.hub.Arrival.TheVariants.{Taken}
-use Rattle.hub_core.specs.Answers.{Arrives, has_frames}
-use Rattle.hub_core.specs.Orders.{Refuses}
-use Rattle.hub_core.proofs.NoteLemmas.{is_inner, NotesOne, advances_noted, fails_noted, appends_noted, notes_none, notes_entered, StillOrNew, still_of, still_entered, drops_silent, same_or_not, falsely, truly}
+use Rattle.hub_notes.proofs.FrontLemmas.{appends_same, appends_as, appends_after_nothing}
+use Rattle.hub_notes.specs.Table.{TableState, ChangesOne, IsTable, is_kept, TakesDue, table_of}
+use Rattle.hub_notes.specs.declared.arrival.Arrival.TheVariants.{Taken}
+use Rattle.hub_notes.specs.Answers.{Arrives, Makes, has_frames}
+use Rattle.socket_core.specs.Items.{IsSent}
+use Rattle.socket_core.specs.declared.item.Item.{Item as Puttable}
+use Rattle.socket_core.specs.declared.socket.Kept.{Kept}
+use Rattle.hub_core.specs.Changes.{ChangesHub, Ends}
+use Rattle.hub_core.specs.Sends.{Notes, Sends}
+use Rattle.hub_core.specs.Puts.{Puts}
+use Rattle.hub_core.specs.State.{hub_of}
+use Rattle.hub_core.proofs.HubSteps.{Enters}
+use Rattle.hub_core.proofs.StateLemmas.{progress_of, plain_change, change_named}
+use Rattle.hub_core.proofs.NoteLemmas.{is_inner, NotesOne, Notices, notices_none, notices_entered, advances_noted, fails_noted, appends_noted, notes_none, notes_entered, Still, StillOrNew, still_of, still_same, items_still, same_or_not, falsely, truly}
 
 -- ---- numbers that notes name
 
@@ -52,11 +65,8 @@ known : (has : Bool) (at phase : Phase) → cond has (Some at) None ≡ Some pha
 known true at phase e = (refl, let h : at ≡ phase = cc in h)
 known false at phase e = cc
 
-pub phase_known : (table : TableState) (c : ℕ) (phase : Phase) → phase_at (hub_of table) c ≡ Some phase → (entry_of table.entries c).phase ≡ phase
-phase_known table c phase e = (known (has_entry table.entries c) (entry_of table.entries c).phase phase e).1
-
-pub there_known : (table : TableState) (c : ℕ) (phase : Phase) → phase_at (hub_of table) c ≡ Some phase → has_entry table.entries c ≡ true
-there_known table c phase e = (known (has_entry table.entries c) (entry_of table.entries c).phase phase e).0
+pub phase_known : (hub : HubState) (c : ℕ) (phase : Phase) → phase_at hub c ≡ Some phase → (entry_at hub c).phase ≡ phase
+phase_known hub c phase e = (known (has_entry hub.entries c) (entry_at hub c).phase phase e).1
 
 read_not_gone : (has : Bool) (at : Phase) → is_reading (cond has (Some at) None) ≡ true → is_gone at ≡ false
 read_not_gone true Head e = refl
@@ -67,8 +77,8 @@ read_not_gone true Gone e = clash false refl e
 read_not_gone false at e = clash false refl e
 
 -- a connection that is read is not gone
-pub read_is_present : (table : TableState) (c : ℕ) → is_reading (phase_at (hub_of table) c) ≡ true → is_present (hub_of table) c ≡ true
-read_is_present table c e = ap not (read_not_gone (has_entry table.entries c) (entry_of table.entries c).phase e)
+pub read_is_present : (hub : HubState) (c : ℕ) → is_reading (phase_at hub c) ≡ true → is_present hub c ≡ true
+read_is_present hub c e = ap not (read_not_gone (has_entry hub.entries c) (entry_at hub c).phase e)
 
 -- ---- octets that were read, and a pong
 
@@ -80,43 +90,45 @@ may_be_given c n true Ending e = clash false refl e
 may_be_given c n true Gone e = clash false refl e
 may_be_given c n false at e = clash false refl e
 
-given_moves_none : (c n : ℕ) (at : Phase) (due : Option (ℕ × List ℕ)) → progress_by (note.given c n) (record { phase = unless_gone (Some at); due = due }) ≡ record { phase = unless_gone (Some at); due = due }
-given_moves_none c n Head due = refl
-given_moves_none c n Open due = refl
-given_moves_none c n Leaving due = refl
-given_moves_none c n Ending due = refl
-given_moves_none c n Gone due = refl
+given_moves_none : (c n : ℕ) (at : Phase) (topics : List (List ℕ)) (due : Option (ℕ × List ℕ)) → progress_by (note.given c n) (progress_of at topics due) ≡ progress_of at topics due
+given_moves_none c n Head topics due = refl
+given_moves_none c n Open topics due = refl
+given_moves_none c n Leaving topics due = refl
+given_moves_none c n Ending topics due = refl
+given_moves_none c n Gone topics due = refl
 
-pub notes_given : (table : TableState) (c n : ℕ) → is_reading (phase_at (hub_of table) c) ≡ true → NotesOne c (note.given c n) (hub_of table) (hub_of table)
-notes_given table c n e = notes_none c (note.given c n) (hub_of table) (λ d ne. of_other c d ne)
-    (λ own. may_be_given c n (has_entry table.entries c) (entry_of table.entries c).phase e)
-    (given_moves_none c n (entry_of table.entries c).phase (due_of table.partings c))
+pub notes_given : (hub : HubState) (c n : ℕ) → is_reading (phase_at hub c) ≡ true → NotesOne c (note.given c n) hub hub
+notes_given hub c n e = notes_none c (note.given c n) hub (λ d ne. of_other c d ne)
+    (λ own. may_be_given c n (has_entry hub.entries c) (entry_at hub c).phase e)
+    (given_moves_none c n (entry_at hub c).phase (topics_at hub c) (due_at hub c)) (λ d t. refl)
 
 -- a note of an open connection that leaves it open
-pub notes_open : (table : TableState) (c : ℕ) (n : NoteValue) → ((d : ℕ) → d ≢ c → is_of d n ≡ false) → phase_at (hub_of table) c ≡ Some Open → may_come (Some Open) n ≡ true
-    → ((due : Option (ℕ × List ℕ)) → progress_by n (record { phase = Some Open; due = due }) ≡ record { phase = Some Open; due = due }) → NotesOne c n (hub_of table) (hub_of table)
-notes_open table c n others e may same =
-    let at : progress_at (hub_of table) c ≡ record { phase = Some Open; due = due_of table.partings c } =
-    ap (λ (z : Phase). record { phase = unless_gone (Some z); due = due_of table.partings c }) (phase_known table c Open e) in
-    notes_none c n (hub_of table) others (λ own. ap (λ (z : Progress). may_come z.phase n) at ∙ may)
-    (ap (progress_by n) at ∙ same (due_of table.partings c) ∙ sym at)
+pub notes_open : (hub : HubState) (c : ℕ) (n : NoteValue) → ((d : ℕ) → d ≢ c → is_of d n ≡ false) → phase_at hub c ≡ Some Open → may_come (Some Open) n ≡ true
+    → ((topics : List (List ℕ)) (due : Option (ℕ × List ℕ)) → progress_by n (progress_of Open topics due) ≡ progress_of Open topics due) → ((d : ℕ) (t : Tell) → tell_by d n t ≡ t) → NotesOne c n hub hub
+notes_open hub c n others e may same untold =
+    let at : progress_at hub c ≡ progress_of Open (topics_at hub c) (due_at hub c) =
+    ap (λ (z : Phase). progress_of z (topics_at hub c) (due_at hub c)) (phase_known hub c Open e) in
+    notes_none c n hub others (λ own. ap (λ (z : Progress). may_come z.phase n) at ∙ may)
+    (ap (progress_by n) at ∙ same (topics_at hub c) (due_at hub c) ∙ sym at) untold
 
 -- a note that names no connection
-pub notes_nobody : (hub : HubState) (n : NoteValue) → ((d : ℕ) → is_of d n ≡ false) → NotesOne 0 n hub hub
-notes_nobody hub n others = record {
+pub notes_nobody : (hub : HubState) (n : NoteValue) → ((d : ℕ) → is_of d n ≡ false) → ((d : ℕ) (t : Tell) → tell_by d n t ≡ t) → NotesOne 0 n hub hub
+notes_nobody hub n others untold = record {
   others = λ d ne. others d;
   may = λ own. clash (is_of 0 n) (others 0) own;
   here = sym (ap (λ (z : Bool). cond z (progress_by n (progress_at hub 0)) (progress_at hub 0)) (others 0));
   elsewhere = λ d ne. refl;
+  tells = λ e d. sym (untold d (tell_at hub d));
+  counts = λ e. same_counts hub;
 }
 
 -- an order that is refused
-unserved_moves_none : (c n : ℕ) (why : Why) (at : Phase) (due : Option (ℕ × List ℕ)) → progress_by (note.unserved c n why) (record { phase = unless_gone (Some at); due = due }) ≡ record { phase = unless_gone (Some at); due = due }
-unserved_moves_none c n why Head due = refl
-unserved_moves_none c n why Open due = refl
-unserved_moves_none c n why Leaving due = refl
-unserved_moves_none c n why Ending due = refl
-unserved_moves_none c n why Gone due = refl
+unserved_moves_none : (c n : ℕ) (why : Why) (at : Phase) (topics : List (List ℕ)) (due : Option (ℕ × List ℕ)) → progress_by (note.unserved c n why) (progress_of at topics due) ≡ progress_of at topics due
+unserved_moves_none c n why Head topics due = refl
+unserved_moves_none c n why Open topics due = refl
+unserved_moves_none c n why Leaving topics due = refl
+unserved_moves_none c n why Ending topics due = refl
+unserved_moves_none c n why Gone topics due = refl
 
 may_be_unserved : (c n : ℕ) (why : Why) (phase : Option Phase) → may_come phase (note.unserved c n why) ≡ true
 may_be_unserved c n why None = refl
@@ -129,62 +141,176 @@ may_be_unserved c n why (Some Gone) = refl
 pub notes_unserved : (hub : HubState) (c n : ℕ) (why : Why) → NotesOne c (note.unserved c n why) hub hub
 notes_unserved hub c n why = notes_none c (note.unserved c n why) hub (λ d ne. of_other c d ne)
     (λ own. may_be_unserved c n why (progress_at hub c).phase)
-    (unserved_moves_none c n why (entry_at hub c).phase (due_at hub c))
+    (unserved_moves_none c n why (entry_at hub c).phase (topics_at hub c) (due_at hub c)) (λ d t. refl)
 
-pub refuses_of : (c n : ℕ) (why : Why) (old mid : Server) (t : Option (List NoteValue)) → mid ≡ old → IsNoted mid.told (note.unserved c n why) t → Refuses c n why old (server mid.hub mid.net t)
-refuses_of c n why old mid t same told = subst (λ (z : Server). Refuses c n why z (server mid.hub mid.net t)) same (record {
-  hub = refl;
-  net = refl;
-  makes = record {
-    advances = advances_noted c (note.unserved c n why) mid.hub mid.hub mid.net mid.told t told refl (notes_unserved mid.hub c n why);
-    fails = fails_noted (note.unserved c n why) mid.net refl;
-  };
-})
+-- ---- a note, and then what is put
+
+pub sends_noted : {c : ℕ} {n : NoteValue} {f : ℕ → List Item} {a m b : Server} → Notices c n a m → Sends c [] f m b → Sends c (n ∷ []) f a b
+sends_noted {c} {n} {f} {a} {m} {b} x y = record {
+  ties = y.ties;
+  proceeds = proceeds_then (n ∷ []) [] a m b (proceeds_first (n ∷ []) a m x.advances x.fails) y.proceeds;
+  appends = appends_after_nothing f a m b x.appends y.appends;
+  elsewhere = lines_elsewhere_then c a m b x.lines y.elsewhere;
+  named = y.named ∙ x.named;
+  table = y.table;
+}
+
+-- a note alone
+pub sends_nothing : {c : ℕ} {n : NoteValue} {a b : Server} → Notices c n a b → Ties a → IsTable (table_of b.hub) → Sends c (n ∷ []) nothing a b
+sends_nothing {c} {n} {a} {b} x ties table = record {
+  ties = x.ties ties;
+  proceeds = proceeds_first (n ∷ []) a b x.advances x.fails;
+  appends = x.appends;
+  elsewhere = x.lines;
+  named = x.named;
+  table = table;
+}
+
+-- an item that is put
+pub sends_put : {c : ℕ} {item : Puttable} {kept : Kept} {a b : Server} (x : Item) → Puts c item kept a b → IsSent item x → Sends c [] (only c x) a b
+sends_put x p s = record { ties = p.ties; proceeds = p.proceeds; appends = p.appends x s; elsewhere = p.elsewhere; named = p.named; table = p.table }
+
+pub sends_as : {c : ℕ} {first : List NoteValue} {f g : ℕ → List Item} {a b : Server} → Sends c first f a b → ((d : ℕ) → f d ≡ g d) → Sends c first g a b
+sends_as {c} {first} {f} {g} {a} {b} x e = record { ties = x.ties; proceeds = x.proceeds; appends = appends_as f g a b x.appends e; elsewhere = x.elsewhere; named = x.named; table = x.table }
+
+-- what is served where the test is true, or false
+pub sends_served : {c : ℕ} {first : List NoteValue} {f : ℕ → List Item} {a b : Server} (test : Bool) → test ≡ true → Sends c first f a b → Sends c first (served test f) a b
+sends_served {c} {first} {f} test e x = sends_as x (λ d. sym (ap (λ (z : Bool). cond z (f d) []) e))
+
+pub sends_unserved : {c : ℕ} {first : List NoteValue} {a b : Server} (f : ℕ → List Item) (test : Bool) → test ≡ false → Sends c first nothing a b → Sends c first (served test f) a b
+sends_unserved f test e x = sends_as x (λ d. sym (ap (λ (z : Bool). cond z (f d) []) e))
+
+-- a note beside a hub that stays as it is
+pub notes_alone : (c : ℕ) (n : NoteValue) (hub : HubState) (net : NetState) (t t' : Option (List NoteValue)) → IsNoted t n t' → is_inner n ≡ true → ((d : ℕ) → is_silent d n ≡ true) → NotesOne c n hub hub
+    → Ties (server hub net t) → IsTable (table_of hub) → Notes c (n ∷ []) (server hub net t) (server hub net t')
+notes_alone c n hub net t t' told inner silent one ties table =
+    let x = notices_none c n hub net t t' told inner silent one in
+    record {
+      ties = ties;
+      makes = record { advances = x.advances; fails = x.fails };
+      appends = x.appends;
+      elsewhere = record { phase = λ d ne. refl; pairs = λ d ne topic. refl; ring = λ d ne. refl; cork = λ d ne. refl; pending = λ d ne. refl };
+      named = refl;
+      table = table;
+    }
+
+-- ---- octets that were read
+
+heard_none : (leaves : Bool) → one_heard leaves new_count ≡ new_count
+heard_none true = refl
+heard_none false = refl
+
+-- as long as no ticks are counted
+pub counts_given : (hub : HubState) (c n : ℕ) → ((d : ℕ) → counts_at hub d ≡ new_count) → CountsBy (note.given c n) hub hub
+counts_given hub c n none d there = (inl there, one (nat_eq c d) (leaves_at hub d) (counts_at hub d) (none d))
+  where
+    one : (own leaves : Bool) (count : QuietCount) → count ≡ new_count → count ≡ cond own (one_heard leaves count) count
+    one true leaves count e = e ∙ sym (heard_none leaves) ∙ ap (one_heard leaves) (sym e)
+    one false leaves count e = refl
 
 -- ---- a connection that goes on to another phase
 
-phase_same : (a b : TableState) (d : ℕ) → entry_of b.entries d ≡ entry_of a.entries d → has_entry b.entries d ≡ has_entry a.entries d → phase_at (hub_of b) d ≡ phase_at (hub_of a) d
-phase_same a b d e h = ap (λ (z : Bool). cond z (Some (entry_of b.entries d).phase) None) h ∙ ap (λ (z : Entry). cond (has_entry a.entries d) (Some z.phase) None) e
+-- as long as only the table is filled
+pub plain_enters : (c : ℕ) (n : NoteValue) (phase : Phase) (a b : TableState) → ChangesOne c a b → entry_of b.entries c ≡ record (entry_of a.entries c) { phase = phase }
+    → progress_at (hub_of b) c ≡ progress_by n (progress_at (hub_of a) c) → tell_by c n nothing_told ≡ nothing_told → Enters c n phase (hub_of a) (hub_of b)
+plain_enters c n phase a b change entry progress untold = record { entry = entry; cork = refl; pending = refl; progress = progress; tells = sym untold; change = plain_change c a b change }
 
-present_has : (es : List Entry) (d : ℕ) → not (is_gone (entry_of es d).phase) ≡ true → has_entry es d ≡ true
-present_has es d there = present_entry es d there
+-- a request that is admitted or refused
+pub head_progress : (c : ℕ) (n : NoteValue) (phase : Phase) (a b : TableState) → (entry_of a.entries c).phase ≡ Head → entry_of b.entries c ≡ record (entry_of a.entries c) { phase = phase } → due_of b.partings c ≡ due_of a.partings c
+    → ((due : Option (ℕ × List ℕ)) → progress_of phase [] due ≡ progress_by n (progress_of Head [] due)) → progress_at (hub_of b) c ≡ progress_by n (progress_at (hub_of a) c)
+head_progress c n phase a b was entry due step =
+    ap (λ (z : Entry). progress_of z.phase [] (due_of b.partings c)) entry ∙ ap (progress_of phase []) due ∙ step (due_of a.partings c)
+    ∙ ap (λ (z : Phase). progress_by n (progress_of z [] (due_of a.partings c))) (sym was)
 
-up_to : (n m : ℕ) → m ≡ n → n ≤ m
-up_to n m e = omega arith
+marked_none : (b : Bool) → cond b (marked nothing_told) nothing_told ≡ nothing_told
+marked_none true = refl
+marked_none false = refl
 
-pub lines_changed : (c : ℕ) (a b : TableState) (net : NetState) (t t' : Option (List NoteValue)) → ChangesOne c a b → SameLinesElsewhere c (server_of a net t) (server_of b net t')
-lines_changed c a b net t t' one = record {
-  tells = refl;
-  present = λ d ne there. ap (λ (z : Entry). not (is_gone z.phase)) (sym (one.entries d ne)) ∙ there;
-  phase = λ d ne there. phase_same a b d (one.entries d ne)
-      (present_has b.entries d there ∙ sym (present_has a.entries d (ap (λ (z : Entry). not (is_gone z.phase)) (sym (one.entries d ne)) ∙ there)));
-  pairs = λ d ne there topic. refl;
-  pending = λ d ne there. refl;
-  octets = λ d ne there tells. ap (λ (z : Entry). net.taken d ++ (z.ring ++ [])) (one.entries d ne);
-}
+pub opened_untold : (c route : ℕ) (param : List ℕ) → tell_by c (note.opened c route param) nothing_told ≡ nothing_told
+opened_untold c route param = marked_none (nat_eq c c)
 
-pub ties_changed : (c : ℕ) (a b : TableState) (net : NetState) (t t' : Option (List NoteValue)) → ChangesOne c a b → is_gone (entry_of b.entries c).phase ≡ is_gone (entry_of a.entries c).phase
-    → Ties (server_of a net t) → Ties (server_of b net t')
-ties_changed c a b net t t' one gone ties d there = same_or_not c d
-    (λ e. ties d (subst (λ (z : ℕ). not (is_gone (entry_of a.entries z).phase) ≡ true) (sym e)
-    (ap not (sym gone) ∙ subst (λ (z : ℕ). not (is_gone (entry_of b.entries z).phase) ≡ true) e there)))
-    (λ ne. ties d (ap (λ (z : Entry). not (is_gone z.phase)) (sym (one.entries d ne)) ∙ there))
+pub opened_elsewhere : (c route : ℕ) (param : List ℕ) (d : ℕ) → d ≢ c → (t : Tell) → tell_by d (note.opened c route param) t ≡ t
+opened_elsewhere c route param d ne t = ap (λ (z : Bool). cond z (marked t) t) (of_other c d ne)
 
--- a note with which one connection goes on to another phase, and then what is put
-pub proceeds_noted : (c : ℕ) (n : NoteValue) (a b : TableState) (net : NetState) (t t' : Option (List NoteValue)) (after : Server) → IsNoted t n t' → is_inner n ≡ true → NotesOne c n (hub_of a) (hub_of b)
-    → Proceeds [] [] (server_of b net t') after → Proceeds (n ∷ []) [] (server_of a net t) after
-proceeds_noted c n a b net t t' after told inner one then = proceeds_then (n ∷ []) [] (server_of a net t) (server_of b net t') after
-    (proceeds_first (n ∷ []) (server_of a net t) (server_of b net t') (advances_noted c n (hub_of a) (hub_of b) net t t' told inner one) (fails_noted n net inner)) then
+-- the note of a request's answer, as long as only the table is filled
+pub head_notices : (c : ℕ) (n : NoteValue) (phase : Phase) (a b : TableState) (net : NetState) (t t' : Option (List NoteValue)) → phase_at (hub_of a) c ≡ Some Head → entry_of b.entries c ≡ record (entry_of a.entries c) { phase = phase }
+    → due_of b.partings c ≡ due_of a.partings c → ChangesOne c a b → IsNoted t n t' → is_gone phase ≡ false → ((due : Option (ℕ × List ℕ)) → progress_of phase [] due ≡ progress_by n (progress_of Head [] due)) → may_come (Some Head) n ≡ true
+    → is_inner n ≡ true → ((d : ℕ) → is_silent d n ≡ true) → is_of c n ≡ true → ((d : ℕ) → d ≢ c → is_of d n ≡ false) → tell_by c n nothing_told ≡ nothing_told → ((d : ℕ) → d ≢ c → (u : Tell) → tell_by d n u ≡ u)
+    → Notices c n (server (hub_of a) net t) (server (hub_of b) net t')
+head_notices c n phase a b net t t' head entry due change told there step may inner silent own others untold elsewhere =
+    let was : (entry_of a.entries c).phase ≡ Head = phase_known (hub_of a) c Head head in
+    let e : Enters c n phase (hub_of a) (hub_of b) = plain_enters c n phase a b change entry (head_progress c n phase a b was entry due step) untold in
+    let gone : is_gone phase ≡ is_gone (entry_of a.entries c).phase = there ∙ sym (ap is_gone was) in
+    notices_entered e net t t' told inner silent (notes_entered e others own (ap (λ (z : Phase). may_come (unless_gone (Some z)) n) was ∙ may) elsewhere gone) gone
 
-pub appends_entered : (c : ℕ) (n : NoteValue) (a b : TableState) (net : NetState) (t t' : Option (List NoteValue)) → ChangesOne c a b → IsNoted t n t' → ((d : ℕ) → is_silent d n ≡ true)
-    → (entry_of b.entries c).numbered ≡ (entry_of a.entries c).numbered → (entry_of b.entries c).ring ≡ (entry_of a.entries c).ring → is_gone (entry_of b.entries c).phase ≡ is_gone (entry_of a.entries c).phase
-    → Appends nothing (server_of a net t) (server_of b net t')
-appends_entered c n a b net t t' one told silent numbered ring gone =
-    appends_noted a b net t t' n one.config (up_to a.named b.named one.named) told silent (still_entered c a b one numbered ring gone)
+-- ---- a connection in phase Open or Leaving that is ending
+
+frames_not_gone : (has : Bool) (at : Phase) → has_frames (cond has (Some at) None) ≡ true → is_gone at ≡ false
+frames_not_gone true Open e = refl
+frames_not_gone true Leaving e = refl
+frames_not_gone true Head e = clash false refl e
+frames_not_gone true Ending e = clash false refl e
+frames_not_gone true Gone e = clash false refl e
+frames_not_gone false at e = clash false refl e
+
+-- a note with which a connection ends
+pub record IsEnd (code : ℕ) (reason : List ℕ) (n : NoteValue) : Type 0 where
+  pub from_open : (topics : List (List ℕ)) (due : Option (ℕ × List ℕ)) → progress_by n (progress_of Open topics due) ≡ progress_of Ending [] (Some (code, reason))
+  pub from_leaving : (topics : List (List ℕ)) (due : Option (ℕ × List ℕ)) → progress_by n (progress_of Leaving topics due) ≡ progress_of Ending topics due
+  pub may_open : may_come (Some Open) n ≡ true
+  pub may_leaving : may_come (Some Leaving) n ≡ true
+
+pub end_close : (c code : ℕ) (reason : List ℕ) → IsEnd code reason (note.peer_close c code reason)
+end_close c code reason = record { from_open = λ topics due. refl; from_leaving = λ topics due. refl; may_open = refl; may_leaving = refl }
+
+pub end_failed : (c code : ℕ) → IsEnd code [] (note.failed c code)
+end_failed c code = record { from_open = λ topics due. refl; from_leaving = λ topics due. refl; may_open = refl; may_leaving = refl }
+
+end_moves : (code : ℕ) (reason : List ℕ) (n : NoteValue) (has : Bool) (at : Phase) (topics : List (List ℕ)) (due : Option (ℕ × List ℕ)) → IsEnd code reason n → has_frames (cond has (Some at) None) ≡ true
+    → progress_of Ending (topics_left (Some at) (Some Ending) topics) (cond (is_open (cond has (Some at) None)) (Some (code, reason)) due) ≡ progress_by n (progress_of at topics due)
+end_moves code reason n true Open topics due x e = sym (x.from_open topics due)
+end_moves code reason n true Leaving topics due x e = sym (x.from_leaving topics due)
+end_moves code reason n true Head topics due x e = clash false refl e
+end_moves code reason n true Ending topics due x e = clash false refl e
+end_moves code reason n true Gone topics due x e = clash false refl e
+end_moves code reason n false at topics due x e = clash false refl e
+
+end_may : (code : ℕ) (reason : List ℕ) (n : NoteValue) (has : Bool) (at : Phase) → IsEnd code reason n → has_frames (cond has (Some at) None) ≡ true → may_come (unless_gone (Some at)) n ≡ true
+end_may code reason n true Open x e = x.may_open
+end_may code reason n true Leaving x e = x.may_leaving
+end_may code reason n true Head x e = clash false refl e
+end_may code reason n true Ending x e = clash false refl e
+end_may code reason n true Gone x e = clash false refl e
+end_may code reason n false at x e = clash false refl e
+
+module _ {c code : ℕ} {reason : List ℕ} {was : Bool} {a b : HubState} (x : Ends c code reason was a b) (framed : has_frames (phase_at a c) ≡ true) (n : NoteValue) (is : IsEnd code reason n) where
+  ends_enters : tell_by c n (tell_at a c) ≡ tell_at a c → Enters c n Ending a b
+  ends_enters untold = record {
+    entry = x.entry;
+    cork = x.cork;
+    pending = x.pending;
+    progress =
+        ap (λ (z : Entry). progress_of z.phase (topics_at b c) (due_at b c)) x.entry
+        ∙ ap (λ (z : List (List ℕ)). progress_of Ending z (due_at b c)) x.topics
+        ∙ ap (λ (z : Option (ℕ × List ℕ)). progress_of Ending (topics_left (Some (entry_at a c).phase) (Some Ending) (topics_at a c)) z) x.due
+        ∙ end_moves code reason n (has_entry a.entries c) (entry_at a c).phase (topics_at a c) (due_at a c) is framed;
+    tells = x.tells ∙ sym untold;
+    change = x.change;
+  }
+
+  ends_gone : is_gone Ending ≡ is_gone (entry_at a c).phase
+  ends_gone = sym (frames_not_gone (has_entry a.entries c) (entry_at a c).phase framed)
+
+  pub notices_ends : (net : NetState) (t t' : Option (List NoteValue)) → IsNoted t n t' → is_inner n ≡ true → ((d : ℕ) → is_silent d n ≡ true) → ((d : ℕ) → d ≢ c → is_of d n ≡ false) → is_of c n ≡ true
+      → ((d : ℕ) (u : Tell) → tell_by d n u ≡ u) → Notices c n (server a net t) (server b net t')
+  notices_ends net t t' told inner silent others own untold =
+      let e = ends_enters (untold c (tell_at a c)) in
+      notices_entered e net t t' told inner silent
+      (notes_entered e others own (end_may code reason n (has_entry a.entries c) (entry_at a c).phase is framed) (λ d ne u. untold d u) ends_gone) ends_gone
 
 -- ---- a connection that is accepted
 
-abbrev pub with_accepted : TableState → ℕ → TableState
+abbrev pub with_accepted : HubState → ℕ → HubState
 with_accepted a c = record a { named = c; entries = a.entries ++ new_entry a.config c ∷ [] }
 
 gone_phase : (phase : Phase) → is_gone phase ≡ true → unless_gone (Some phase) ≡ None
@@ -198,229 +324,192 @@ none_due : (due : Option (ℕ × List ℕ)) → is_some due ≡ false → due �
 none_due None e = refl
 none_due (Some x) e = clash true e refl
 
-pub absent_above : (a : TableState) (c : ℕ) → IsTable a → a.named < c → has_entry a.entries c ≡ false
-absent_above a c table above = by_cases (has_entry a.entries c) (λ has. absurd (let h = table.named c has in omega arith)) (λ e. e)
+-- a connection with a greater number than all before comes; nothing is kept for its number
+pub record IsNext (a : HubState) (c : ℕ) : Type 0 where
+  pub table : IsTable (table_of a)
+  pub above : a.named < c
+  pub topics : topics_at a c ≡ []
+  pub cork : cork_at a c ≡ []
+  pub pending : pending_at a c ≡ []
 
--- where there is no entry, the connection has no phase and no Closed event
-pub progress_absent : (a : TableState) (c : ℕ) → IsTable a → has_entry a.entries c ≡ false → progress_at (hub_of a) c ≡ record { phase = None; due = None }
-progress_absent a c table none =
-    let kept : is_kept a.entries a.partings c ≡ false = sym (table.kept c) ∙ none in
-    let gone : is_gone (entry_of a.entries c).phase ≡ true = truly (is_gone (entry_of a.entries c).phase) (or_left (not (is_gone (entry_of a.entries c).phase)) (is_some (due_of a.partings c)) kept) in
-    let phase = gone_phase (entry_of a.entries c).phase gone in
-    let due = none_due (due_of a.partings c) (or_right (not (is_gone (entry_of a.entries c).phase)) (is_some (due_of a.partings c)) kept) in
-    cc
+module _ {a : HubState} {c : ℕ} (x : IsNext a c) where
+  absent : has_entry a.entries c ≡ false
+  absent = by_cases (has_entry a.entries c) (λ has. absurd (let h = x.table.named c has in let k = x.above in omega arith)) (λ e. e)
 
-pub notes_accepted : (a : TableState) (c : ℕ) → IsTable a → a.named < c → NotesOne c (note.accepted c) (hub_of a) (hub_of (with_accepted a c))
-notes_accepted a c table above =
-    let none = absent_above a c table above in
-    let before = progress_absent a c table none in
-    let due : due_of a.partings c ≡ None = ap (λ (z : Progress). z.due) before in
-    let entry : entry_of (with_accepted a c).entries c ≡ new_entry a.config c = entry_new a.entries (new_entry a.config c) none in
+  -- where there is no entry, the connection has no phase, no topics and no Closed event
+  absent_progress : progress_at a c ≡ record { phase = None; topics = []; due = None }
+  absent_progress =
+      let kept : is_kept a.entries a.partings c ≡ false = sym (x.table.kept c) ∙ absent in
+      let gone : is_gone (entry_at a c).phase ≡ true = truly (is_gone (entry_at a c).phase) (or_left (not (is_gone (entry_at a c).phase)) (is_some (due_at a c)) kept) in
+      let phase = gone_phase (entry_at a c).phase gone in
+      let due = none_due (due_at a c) (or_right (not (is_gone (entry_at a c).phase)) (is_some (due_at a c)) kept) in
+      let topics = x.topics in
+      cc
+
+  here : entry_at (with_accepted a c) c ≡ new_entry a.config c
+  here = entry_new a.entries (new_entry a.config c) absent
+
+  elsewhere : (d : ℕ) → d ≢ c → entry_at (with_accepted a c) d ≡ entry_at a d
+  elsewhere d ne = entry_added a.entries (new_entry a.config c) d ne
+
+  notes_accepted : NotesOne c (note.accepted c) a (with_accepted a c)
+  notes_accepted =
+      let before = absent_progress in
+      record {
+        others = λ d ne. of_other c d ne;
+        may = λ own. ap (λ (z : Progress). may_come z.phase (note.accepted c)) before;
+        here = ap (λ (z : Entry). progress_of z.phase (topics_at a c) (due_at a c)) here
+            ∙ ap (λ (z : Progress). record { phase = Some Head; topics = z.topics; due = z.due }) before
+            ∙ sym (ap (λ (z : Bool). cond z (progress_by (note.accepted c) (progress_at a c)) (progress_at a c)) (of_here c) ∙ ap (progress_by (note.accepted c)) before);
+        elsewhere = λ d ne. ap (λ (z : Entry). progress_of z.phase (topics_at a d) (due_at a d)) (elsewhere d ne);
+        tells = λ e d. refl;
+        counts = λ e. clash false refl e;
+      }
+
+  still_accepted : (d : ℕ) → StillOrNew a (with_accepted a c) d
+  still_accepted d = same_or_not c d
+      (λ e. subst (λ (z : ℕ). StillOrNew a (with_accepted a c) z) (sym e) (inr (x.above, ap (λ (z : Entry). z.ring) here)))
+      (λ ne. inl (record {
+        held = ap (λ (z : Entry). record { numbered = z.numbered; ring = z.ring; cork = cork_at a d; pending = pending_at a d }) (elsewhere d ne);
+        gone = ap (λ (z : Entry). is_gone z.phase) (elsewhere d ne);
+      }))
+
+  below : (n m : ℕ) → n < m → n ≤ m
+  below n m e = omega arith
+
+  pub appends_accepted : (net : NetState) (t t' : Option (List NoteValue)) → IsNoted t (note.accepted c) t' → Appends nothing (server a net t) (server (with_accepted a c) net t')
+  appends_accepted net t t' told = appends_noted a (with_accepted a c) net t t' (note.accepted c) refl (below a.named c x.above) told (λ d. refl) still_accepted
+
+  starts_accepted : (net : NetState) (t : Option (List NoteValue)) → Starts c (server (with_accepted a c) net t)
+  starts_accepted net t = starts_of c a.config (server (with_accepted a c) net t) here x.cork x.pending
+
+  pub ties_accepted : (net : NetState) (t t' : Option (List NoteValue)) → net.live c ≡ true → Ties (server a net t) → Ties (server (with_accepted a c) net t')
+  ties_accepted net t t' live ties d there = same_or_not c d
+      (λ e. subst (λ (z : ℕ). net.live z ≡ true) (sym e) live)
+      (λ ne. ties d (ap (λ (z : Entry). not (is_gone z.phase)) (sym (elsewhere d ne)) ∙ there))
+
+  room_left : (n m : ℕ) → false ≡ nat_eq n m → n ≤ m → n < m
+  room_left n m e few = grind (arith, nat_tests)
+
+  pub arrives_taken : (net : NetState) (t t' : Option (List NoteValue)) → false ≡ nat_eq (length a.entries) a.config.max_conns → IsNoted t (note.accepted c) t' → Arrives Taken c (server a net t) (server (with_accepted a c) net t')
+  arrives_taken net t t' full told = (
+    room_left (length a.entries) a.config.max_conns full x.table.few,
+    refl,
+    starts_accepted net t',
     record {
-      others = λ d ne. of_other c d ne;
-      may = λ own. ap (λ (z : Progress). may_come z.phase (note.accepted c)) before;
-      here = ap (λ (z : Entry). record { phase = unless_gone (Some z.phase); due = due_of a.partings c }) entry
-          ∙ ap (λ (z : Option (ℕ × List ℕ)). record { phase = Some Head; due = z }) due
-          ∙ sym (ap (λ (z : Bool). cond z (progress_by (note.accepted c) (progress_at (hub_of a) c)) (progress_at (hub_of a) c)) (of_here c) ∙ ap (progress_by (note.accepted c)) before);
-      elsewhere = λ d ne. ap (λ (z : Entry). record { phase = unless_gone (Some z.phase); due = due_of a.partings d }) (entry_added a.entries (new_entry a.config c) d ne);
+      advances = advances_noted c (note.accepted c) a (with_accepted a c) net t t' told refl notes_accepted;
+      fails = fails_noted (note.accepted c) net refl;
+    },
+  )
+
+  -- its count begins
+  pub counts_accepted : CountsBy (note.accepted c) a (with_accepted a c)
+  counts_accepted d there = same_or_not c d
+      (λ e. (
+        inr (ap note.accepted (sym e)),
+        subst (λ (z : ℕ). counts_at (with_accepted a c) z ≡ cond (nat_eq c z) new_count (counts_at a z)) (sym e)
+            (ap (λ (z : Entry). record { ticks = z.quiet.ticks; leaving = z.quiet.leaving }) here ∙ sym (ap (λ (z : Bool). cond z new_count (counts_at a c)) (of_here c))),
+      ))
+      (λ ne. (
+        inl (ap (λ (z : Entry). not (is_gone z.phase)) (sym (elsewhere d ne)) ∙ there),
+        ap (λ (z : Entry). record { ticks = z.quiet.ticks; leaving = z.quiet.leaving }) (elsewhere d ne) ∙ sym (ap (λ (z : Bool). cond z new_count (counts_at a d)) (of_other c d ne)),
+      ))
+
+-- a note beside a hub that stays as it is
+pub appends_quiet : (h : HubState) (net : NetState) (t t' : Option (List NoteValue)) (n : NoteValue) → IsNoted t n t' → ((d : ℕ) → is_silent d n ≡ true) → Appends nothing (server h net t) (server h net t')
+appends_quiet h net t t' n told silent = appends_noted h h net t t' n refl (omega arith) told silent (λ d. inl (still_same h d))
+
+-- a connection that came is not accepted
+pub makes_none : {a : HubState} {c : ℕ} (x : IsNext a c) (n : NoteValue) (net : NetState) (t t' : Option (List NoteValue)) → ((d : ℕ) → d ≢ c → is_of d n ≡ false) → may_come None n ≡ true
+    → progress_by n (record { phase = None; topics = []; due = None }) ≡ record { phase = None; topics = []; due = None } → ((d : ℕ) (u : Tell) → tell_by d n u ≡ u) → is_inner n ≡ true → IsNoted t n t' → Makes (n ∷ []) (server a net t) (server a net t')
+makes_none {a} {c} x n net t t' others may still untold inner told =
+    let at = absent_progress x in
+    record {
+      advances = advances_noted c n a a net t t' told inner (notes_none c n a others (λ own. ap (λ (z : Progress). may_come z.phase n) at ∙ may) (ap (progress_by n) at ∙ still ∙ sym at) untold);
+      fails = fails_noted n net inner;
     }
 
-still_accepted : (a : TableState) (c d : ℕ) → IsTable a → a.named < c → StillOrNew a (with_accepted a c) d
-still_accepted a c d table above = same_or_not c d
-    (λ e. subst (λ (z : ℕ). StillOrNew a (with_accepted a c) z) (sym e) (inr (above, ap (λ (z : Entry). z.ring) (entry_new a.entries (new_entry a.config c) (absent_above a c table above)))))
-    (λ ne. inl (still_of a (with_accepted a c) d (entry_added a.entries (new_entry a.config c) d ne)))
-
-below : (n m : ℕ) → n < m → n ≤ m
-below n m e = omega arith
-
-pub appends_accepted : (a : TableState) (c : ℕ) (net : NetState) (t t' : Option (List NoteValue)) → IsTable a → a.named < c → IsNoted t (note.accepted c) t' → Appends nothing (server_of a net t) (server_of (with_accepted a c) net t')
-appends_accepted a c net t t' table above told =
-    appends_noted a (with_accepted a c) net t t' (note.accepted c) refl (below a.named c above) told (λ d. refl) (λ d. still_accepted a c d table above)
-
-pub starts_accepted : (a : TableState) (c : ℕ) (net : NetState) (t : Option (List NoteValue)) → IsTable a → a.named < c → Starts c (server_of (with_accepted a c) net t)
-starts_accepted a c net t table above = starts_of c a.config (server_of (with_accepted a c) net t) (entry_new a.entries (new_entry a.config c) (absent_above a c table above)) refl refl
-
-pub ties_accepted : (a : TableState) (c : ℕ) (net : NetState) (t t' : Option (List NoteValue)) → net.live c ≡ true → Ties (server_of a net t) → Ties (server_of (with_accepted a c) net t')
-ties_accepted a c net t t' live ties d there = same_or_not c d
-    (λ e. subst (λ (z : ℕ). net.live z ≡ true) (sym e) live)
-    (λ ne. ties d (ap (λ (z : Entry). not (is_gone z.phase)) (sym (entry_added a.entries (new_entry a.config c) d ne)) ∙ there))
+-- as long as only the table is filled
+pub plain_next : (a : TableState) (c : ℕ) → IsTable a → a.named < c → IsNext (hub_of a) c
+plain_next a c table above = record { table = table; above = above; topics = refl; cork = refl; pending = refl }
 
 -- ---- a Closed event that is handed out
 
 -- the connection's entry is as it was, or it was gone and is no entry any more
-pub record Forgets (c : ℕ) (a b : TableState) : Type 0 where
-  pub entry : entry_of b.entries c ≡ cond (is_gone (entry_of a.entries c).phase) no_entry (entry_of a.entries c)
-  pub elsewhere : ChangesOne c a b
+pub record Forgets (c : ℕ) (a b : HubState) : Type 0 where
+  pub entry : entry_at b c ≡ cond (is_gone (entry_at a c).phase) no_entry (entry_at a c)
+  pub cork : cork_at b c ≡ cork_at a c
+  pub pending : pending_at b c ≡ pending_at a c
+  pub change : ChangesHub c a b
 
-gone_both : (c : ℕ) (a b : TableState) → Forgets c a b → is_gone (entry_of b.entries c).phase ≡ is_gone (entry_of a.entries c).phase
-gone_both c a b f = by_cases (is_gone (entry_of a.entries c).phase)
-    (λ e. ap (λ (z : Entry). is_gone z.phase) (f.entry ∙ ap (λ (z : Bool). cond z no_entry (entry_of a.entries c)) e) ∙ sym e)
-    (λ e. ap (λ (z : Entry). is_gone z.phase) (f.entry ∙ ap (λ (z : Bool). cond z no_entry (entry_of a.entries c)) e))
+module _ {c : ℕ} {a b : HubState} (f : Forgets c a b) where
+  gone_both : is_gone (entry_at b c).phase ≡ is_gone (entry_at a c).phase
+  gone_both = by_cases (is_gone (entry_at a c).phase)
+      (λ e. ap (λ (z : Entry). is_gone z.phase) (f.entry ∙ ap (λ (z : Bool). cond z no_entry (entry_at a c)) e) ∙ sym e)
+      (λ e. ap (λ (z : Entry). is_gone z.phase) (f.entry ∙ ap (λ (z : Bool). cond z no_entry (entry_at a c)) e))
 
-gone_as : (c d : ℕ) (a b : TableState) → Forgets c a b → is_gone (entry_of b.entries d).phase ≡ is_gone (entry_of a.entries d).phase
-gone_as c d a b f = same_or_not c d
-    (λ e. subst (λ (z : ℕ). is_gone (entry_of b.entries z).phase ≡ is_gone (entry_of a.entries z).phase) (sym e) (gone_both c a b f))
-    (λ ne. ap (λ (z : Entry). is_gone z.phase) (f.elsewhere.entries d ne))
+  gone_as : (d : ℕ) → is_gone (entry_at b d).phase ≡ is_gone (entry_at a d).phase
+  gone_as d = same_or_not c d
+      (λ e. subst (λ (z : ℕ). is_gone (entry_at b z).phase ≡ is_gone (entry_at a z).phase) (sym e) gone_both)
+      (λ ne. ap (λ (z : Entry). is_gone z.phase) (f.change.table.entries d ne))
 
--- who is not gone has the same entry
-pub entry_as : (c d : ℕ) (a b : TableState) → Forgets c a b → is_gone (entry_of a.entries d).phase ≡ false → entry_of b.entries d ≡ entry_of a.entries d
-entry_as c d a b f e = same_or_not c d
-    (λ s. let here : is_gone (entry_of a.entries c).phase ≡ false = subst (λ (z : ℕ). is_gone (entry_of a.entries z).phase ≡ false) s e in
-    subst (λ (z : ℕ). entry_of b.entries z ≡ entry_of a.entries z) (sym s) (f.entry ∙ ap (λ (z : Bool). cond z no_entry (entry_of a.entries c)) here))
-    (λ ne. f.elsewhere.entries d ne)
+  held_here : is_gone (entry_at a c).phase ≡ false → held_at b c ≡ held_at a c
+  held_here e =
+      let entry : entry_at b c ≡ entry_at a c = f.entry ∙ ap (λ (z : Bool). cond z no_entry (entry_at a c)) e in
+      let cork = f.cork in
+      let pending = f.pending in
+      cc
 
-pub ties_forgotten : (c : ℕ) (a b : TableState) (net : NetState) (t : Option (List NoteValue)) → Forgets c a b → Ties (server_of a net t) → Ties (server_of b net t)
-ties_forgotten c a b net t f ties d there = ties d (ap not (sym (gone_as c d a b f)) ∙ there)
+  -- who is not gone stays as it was
+  still_as : (d : ℕ) → is_gone (entry_at a d).phase ≡ false → Still a b d
+  still_as d e = same_or_not c d
+      (λ q. subst (λ (z : ℕ). Still a b z) (sym q) (record { held = held_here (subst (λ (z : ℕ). is_gone (entry_at a z).phase ≡ false) q e); gone = gone_both }))
+      (λ ne. still_of c a b f.change d ne)
 
-line_forgotten : (c d : ℕ) (a b : TableState) (net : NetState) (t : Option (List NoteValue)) → Forgets c a b → KeepsLine d [] (server_of a net t) (server_of b net t)
-line_forgotten c d a b net t f = by_cases (is_gone (entry_of b.entries d).phase)
-    (λ e. line_gone d [] (server_of a net t) (server_of b net t) (ap not e))
-    (λ e. let was : is_gone (entry_of a.entries d).phase ≡ false = sym (gone_as c d a b f) ∙ e in
-    line_still d (server_of a net t) (server_of b net t) (λ there. ap not was)
-    (ap (λ (z : Entry). record { numbered = z.numbered; ring = z.ring; cork = []; pending = [] }) (entry_as c d a b f was)) (ap (λ z. z.limit) f.elsewhere.config)
-    (λ items s. s) (λ items s. s))
+  pub ties_forgotten : (net : NetState) (t : Option (List NoteValue)) → Ties (server a net t) → Ties (server b net t)
+  ties_forgotten net t ties d there = ties d (ap not (sym (gone_as d)) ∙ there)
 
-none_more : (n m : ℕ) → n ≡ m → n + 0 ≡ (m + 0) + 0
-none_more n m e = omega arith
+  line_forgotten : (d : ℕ) (net : NetState) (t : Option (List NoteValue)) → KeepsLine d [] (server a net t) (server b net t)
+  line_forgotten d net t = by_cases (is_gone (entry_at b d).phase)
+      (λ e. line_gone d [] (server a net t) (server b net t) (ap not e))
+      (λ e. let was : is_gone (entry_at a d).phase ≡ false = sym (gone_as d) ∙ e in
+      line_still d (server a net t) (server b net t) (λ there. ap not was) (still_as d was).held (ap (λ z. z.limit) f.change.table.config) (λ items s. s) (λ items s. s))
 
-front_forgotten : (c d : ℕ) (a b : TableState) (net : NetState) (t : Option (List NoteValue)) → Forgets c a b → KeepsFront d [] (server_of a net t) (server_of b net t)
-front_forgotten c d a b net t f = record {
-  tells = refl;
-  told = λ notes e. (notes, e);
-  count = λ there few. none_more (entry_of b.entries d).numbered (entry_of a.entries d).numbered
-      (ap (λ (z : Entry). z.numbered) (entry_as c d a b f (sym (gone_as c d a b f) ∙ falsely (is_gone (entry_of b.entries d).phase) there)));
-  front = λ there away few items stands. clash (is_gone (entry_of b.entries d).phase) (gone_as c d a b f ∙ falsely (is_gone (entry_of a.entries d).phase) there) (truly (is_gone (entry_of b.entries d).phase) away);
-  taken = λ away. refl;
-  drops = λ away old new eo en index. let same : new ≡ old = cc in ap (λ (z : List NoteValue). is_dropped d z index) same;
-}
+  was_there : (d : ℕ) → is_present b d ≡ true → is_gone (entry_at a d).phase ≡ false
+  was_there d there = sym (gone_as d) ∙ falsely (is_gone (entry_at b d).phase) there
 
-ring_as : (c d : ℕ) (a b : TableState) → Forgets c a b → is_gone (entry_of b.entries d).phase ≡ false → (entry_of b.entries d).ring ≡ (entry_of a.entries d).ring
-ring_as c d a b f e = ap (λ (z : Entry). z.ring) (entry_as c d a b f (sym (gone_as c d a b f) ∙ e))
-
-pub appends_forgotten : (c : ℕ) (a b : TableState) (net : NetState) (t : Option (List NoteValue)) → Forgets c a b → Appends nothing (server_of a net t) (server_of b net t)
-appends_forgotten c a b net t f = record {
-  lines = record { config = f.elsewhere.config; named = up_to a.named b.named f.elsewhere.named; lines = λ d few. line_forgotten c d a b net t f };
-  fronts = λ d few. front_forgotten c d a b net t f;
-  short = λ s d there. let here = falsely (is_gone (entry_of b.entries d).phase) there in
-      subst (λ (z : List ℕ). ShortWhereHeld d z t) (sym (ring_as c d a b f here)) (s d (ap not (sym (gone_as c d a b f)) ∙ there));
-  waits = λ w d there some. let here = falsely (is_gone (entry_of b.entries d).phase) there in
-      w d (ap not (sym (gone_as c d a b f)) ∙ there) (λ none. some (ring_as c d a b f here ∙ none));
-}
-
--- ---- a note beside a hub that stays as it is
-
-clash_gone : {A : Type 0} (b : Bool) → b ≡ true → b ≡ false → A
-clash_gone b e f = clash b f e
-
-items_same : (n m : ℕ) → n + m ≡ (n + m) + 0
-items_same n m = omega arith
-
-pub appends_quiet : (h : HubState) (net : NetState) (t t' : Option (List NoteValue)) (n : NoteValue) → IsNoted t n t' → ((d : ℕ) → is_silent d n ≡ true) → Appends nothing (server h net t) (server h net t')
-appends_quiet h net t t' n told silent = record {
-  lines = keeps_note h net net t t' n (λ d. refl) told silent;
-  fronts = λ d below. record {
+  front_forgotten : (d : ℕ) (net : NetState) (t : Option (List NoteValue)) → KeepsFront d [] (server a net t) (server b net t)
+  front_forgotten d net t = record {
     tells = refl;
-    told = λ notes e. let q = split_told t t' n notes told e in (q.0, q.1);
-    count = λ there few. items_same (numbered_at h d) (length (pending_at h d));
-    front = λ there away few items stands. clash_gone (is_present h d) there away;
+    told = λ notes e. (notes, e);
+    count = λ there few. items_still a b d (still_as d (was_there d there));
+    front = λ there away few items stands. clash (is_gone (entry_at b d).phase) (gone_as d ∙ falsely (is_gone (entry_at a d).phase) there) (truly (is_gone (entry_at b d).phase) away);
     taken = λ away. refl;
-    drops = λ away. drops_silent d t t' n told (silent d);
-  };
-  short = λ s d there. short_silent d (ring_at h d) t t' n told (silent d) (s d there);
-  waits = λ w. w;
-}
+    drops = λ away old new eo en index. let same : new ≡ old = cc in ap (λ (z : List NoteValue). is_dropped d z index) same;
+  }
 
--- ---- answers
+  ring_as : (d : ℕ) → is_present b d ≡ true → ring_at b d ≡ ring_at a d
+  ring_as d there = ap (λ (z : Held). z.ring) (still_as d (was_there d there)).held
 
-room_left : (n m : ℕ) → false ≡ nat_eq n m → n ≤ m → n < m
-room_left n m e few = grind (arith, nat_tests)
+  pub appends_forgotten : (net : NetState) (t : Option (List NoteValue)) → Appends nothing (server a net t) (server b net t)
+  appends_forgotten net t = record {
+    lines = record { config = f.change.table.config; named = let h = change_named f.change in omega arith; lines = λ d few. line_forgotten d net t };
+    fronts = λ d few. front_forgotten d net t;
+    short = λ s d there. subst (λ (z : List ℕ). ShortWhereHeld d z t) (sym (ring_as d there)) (s d (ap not (was_there d there)));
+    waits = λ w d there some. w d (ap not (was_there d there)) (λ none. some (ring_as d there ∙ none));
+  }
 
-pub arrives_taken : (a : TableState) (c : ℕ) (net : NetState) (t t' : Option (List NoteValue)) → IsTable a → a.named < c → false ≡ nat_eq (length a.entries) a.config.max_conns → IsNoted t (note.accepted c) t'
-    → Arrives Taken c (server_of a net t) (server_of (with_accepted a c) net t')
-arrives_taken a c net t t' table above full told = (
-  room_left (length a.entries) a.config.max_conns full table.few,
-  refl,
-  starts_accepted a c net t' table above,
-  record {
-    advances = advances_noted c (note.accepted c) (hub_of a) (hub_of (with_accepted a c)) net t t' told refl (notes_accepted a c table above);
-    fails = fails_noted (note.accepted c) net refl;
-  },
-)
+-- as long as only the table is filled
+plain_forgets : (c : ℕ) (a b : TableState) → entry_of b.entries c ≡ cond (is_gone (entry_of a.entries c).phase) no_entry (entry_of a.entries c) → ChangesOne c a b → Forgets c (hub_of a) (hub_of b)
+plain_forgets c a b entry change = record { entry = entry; cork = refl; pending = refl; change = plain_change c a b change }
 
-pub appends_taken : (o : Option PartingValue) (a b : TableState) (net : NetState) (t : Option (List NoteValue)) → TakesDue o a b → Appends nothing (server_of a net t) (server_of b net t)
-appends_taken None a b net t takes = subst (λ (z : TableState). Appends nothing (server_of a net t) (server_of z net t)) (sym takes.0) (appends_same (server_of a net t))
-appends_taken (Some parting) a b net t takes = appends_forgotten parting.conn a b net t (record { entry = takes.3; elsewhere = takes.4 })
+pub appends_taken : (o : Option PartingValue) (a b : TableState) (net : NetState) (t : Option (List NoteValue)) → TakesDue o a b → Appends nothing (server (hub_of a) net t) (server (hub_of b) net t)
+appends_taken None a b net t takes = subst (λ (z : TableState). Appends nothing (server (hub_of a) net t) (server (hub_of z) net t)) (sym takes.0) (appends_same (server (hub_of a) net t))
+appends_taken (Some parting) a b net t takes = appends_forgotten (plain_forgets parting.conn a b takes.3 takes.4) net t
 
-pub ties_taken : (o : Option PartingValue) (a b : TableState) (net : NetState) (t : Option (List NoteValue)) → TakesDue o a b → Ties (server_of a net t) → Ties (server_of b net t)
-ties_taken None a b net t takes ties = subst (λ (z : TableState). Ties (server_of z net t)) (sym takes.0) ties
-ties_taken (Some parting) a b net t takes ties = ties_forgotten parting.conn a b net t (record { entry = takes.3; elsewhere = takes.4 }) ties
-
--- ---- a connection in phase Open or Leaving that is ending
-
-phase_open : (has : Bool) (at : Phase) → is_open (cond has (Some at) None) ≡ true → at ≡ Open
-phase_open true Open e = refl
-phase_open true Head e = clash false refl e
-phase_open true Leaving e = clash false refl e
-phase_open true Ending e = clash false refl e
-phase_open true Gone e = clash false refl e
-phase_open false at e = clash false refl e
-
-phase_leaving : (has : Bool) (at : Phase) → has_frames (cond has (Some at) None) ≡ true → is_open (cond has (Some at) None) ≡ false → at ≡ Leaving
-phase_leaving true Leaving e f = refl
-phase_leaving true Open e f = clash true f refl
-phase_leaving true Head e f = clash false refl e
-phase_leaving true Ending e f = clash false refl e
-phase_leaving true Gone e f = clash false refl e
-phase_leaving false at e f = clash false refl e
-
-frames_not_gone : (has : Bool) (at : Phase) → has_frames (cond has (Some at) None) ≡ true → is_gone at ≡ false
-frames_not_gone true Open e = refl
-frames_not_gone true Leaving e = refl
-frames_not_gone true Head e = clash false refl e
-frames_not_gone true Ending e = clash false refl e
-frames_not_gone true Gone e = clash false refl e
-frames_not_gone false at e = clash false refl e
-
--- what a private call makes of a connection that is ending
-pub record Ends (c : ℕ) (old new : HubState) : Type 0 where
-  pub framed : has_frames (phase_at old c) ≡ true
-  pub entry : entry_at new c ≡ record (entry_at old c) { phase = Ending }
-  pub change : ChangesOne c (table_of old) (table_of new)
-  pub was_plain : hub_of (table_of old) ≡ old
-  pub plain : hub_of (table_of new) ≡ new
-
-ends_gone : {c : ℕ} {old new : HubState} → Ends c old new → is_gone (entry_at new c).phase ≡ is_gone (entry_at old c).phase
-ends_gone {c} {old} {new} e = ap (λ (z : Entry). is_gone z.phase) e.entry ∙ sym (frames_not_gone (has_entry old.entries c) (entry_at old c).phase e.framed)
-
-pub ends_appends : {c : ℕ} {old new : HubState} → Ends c old new → (n : NoteValue) (net : NetState) (t t' : Option (List NoteValue)) → IsNoted t n t' → ((d : ℕ) → is_silent d n ≡ true)
-    → Appends nothing (server old net t) (server new net t')
-ends_appends {c} {old} {new} e n net t t' told silent =
-    subst (λ (z : HubState). Appends nothing (server z net t) (server new net t')) e.was_plain (subst (λ (z : HubState). Appends nothing (server_of (table_of old) net t) (server z net t')) e.plain
-    (appends_entered c n (table_of old) (table_of new) net t t' e.change told silent (ap (λ (z : Entry). z.numbered) e.entry) (ap (λ (z : Entry). z.ring) e.entry) (ends_gone e)))
-
-pub ends_lines : {c : ℕ} {old new : HubState} → Ends c old new → (net : NetState) (t t' : Option (List NoteValue)) → SameLinesElsewhere c (server old net t) (server new net t')
-ends_lines {c} {old} {new} e net t t' =
-    subst (λ (z : HubState). SameLinesElsewhere c (server z net t) (server new net t')) e.was_plain (subst (λ (z : HubState). SameLinesElsewhere c (server_of (table_of old) net t) (server z net t')) e.plain
-    (lines_changed c (table_of old) (table_of new) net t t' e.change))
-
--- from Leaving nothing is put, and no Closed event becomes due
-pub ends_leaving : {c : ℕ} {old new : HubState} → Ends c old new → is_open (phase_at old c) ≡ false → due_at new c ≡ due_at old c → (n : NoteValue) (net : NetState) (t t' : Option (List NoteValue)) → IsNoted t n t' → is_inner n ≡ true
-    → ((d : ℕ) → d ≢ c → is_of d n ≡ false) → is_of c n ≡ true → may_come (Some Leaving) n ≡ true → ((due : Option (ℕ × List ℕ)) → record { phase = Some Ending; due = due } ≡ progress_by n (record { phase = Some Leaving; due = due }))
-    → Proceeds (n ∷ []) [] (server old net t) (server new net t')
-ends_leaving {c} {old} {new} e closed due n net t t' told inner others own may step =
-    let was = phase_leaving (has_entry old.entries c) (entry_at old c).phase e.framed closed in
-    let one : NotesOne c n (hub_of (table_of old)) (hub_of (table_of new)) =
-    notes_entered c n (table_of old) (table_of new) Leaving Ending (due_at old c) e.change others own was (ap (λ (z : Entry). z.phase) e.entry) due may (step (due_at old c)) in
-    let advances = advances_noted c n (hub_of (table_of old)) (hub_of (table_of new)) net t t' told inner one in
-    subst (λ (z : HubState). Proceeds (n ∷ []) [] (server z net t) (server new net t')) e.was_plain (subst (λ (z : HubState). Proceeds (n ∷ []) [] (server_of (table_of old) net t) (server z net t')) e.plain
-    (proceeds_first (n ∷ []) (server_of (table_of old) net t) (server_of (table_of new) net t') advances (fails_noted n net inner)))
-
--- what is served where the test is true, or false
-pub appends_served : (test : Bool) (f : ℕ → List Item) (a b : Server) → test ≡ true → Appends f a b → Appends (served test f) a b
-appends_served test f a b e x = appends_as f (served test f) a b x (λ c. sym (ap (λ (z : Bool). cond z (f c) []) e))
-
-pub appends_unserved : (test : Bool) (f : ℕ → List Item) (a b : Server) → test ≡ false → Appends nothing a b → Appends (served test f) a b
-appends_unserved test f a b e x = appends_as nothing (served test f) a b x (λ c. sym (ap (λ (z : Bool). cond z (f c) []) e))
+pub ties_taken : (o : Option PartingValue) (a b : TableState) (net : NetState) (t : Option (List NoteValue)) → TakesDue o a b → Ties (server (hub_of a) net t) → Ties (server (hub_of b) net t)
+ties_taken None a b net t takes ties = subst (λ (z : TableState). Ties (server (hub_of z) net t)) (sym takes.0) ties
+ties_taken (Some parting) a b net t takes ties = ties_forgotten (plain_forgets parting.conn a b takes.3 takes.4) net t ties
 
 -- ---- frames that are put
 

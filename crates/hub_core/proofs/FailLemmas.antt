@@ -1,26 +1,26 @@
 -- What it leaves of a hub that an item is put for a connection whose link fails: it is gone.
-use Rattle.std.proofs.Common.{◌≡◌, ◌≢◌, ◌<◌, ◌≤◌, ◌+◌, ◌^◌, ◌-◌, ◌⊎◌, inl, inr, ℕ, List, [], ◌∷◌, ◌++◌, Option, Bool, true, false, nat_eq, ◌&&◌, ◌||◌, refl, sym, ap, ◌∙◌, subst, append-nil, arith, ⊎_elim}
+use Rattle.std.proofs.Common.{◌≡◌, ◌≢◌, ◌<◌, ◌≤◌, ◌+◌, ◌^◌, ◌-◌, ◌⊎◌, inl, inr, ℕ, List, [], ◌∷◌, ◌++◌, length, Bool, true, false, nat_eq, ◌&&◌, ◌||◌, refl, sym, ap, ◌∙◌, subst, append-nil, arith, ⊎_elim}
 use Rattle.std.proofs.lemmas.Bool.{cases_eq}
 use Rattle.std.proofs.lemmas.Bool.Decides.{nat_tests}
 use Rattle.ws_kinds.specs.declared.note.Left.TheVariants.{LinkFailed}
 use Rattle.ws_kinds.specs.NoteValue as note
 use Rattle.ws_kinds.specs.NoteValue.{NoteValue}
-use Rattle.link_trait.specs.NetState.{NetState}
 use Rattle.link_trait.specs.Link.{Rose}
 use Rattle.wire_meaning.specs.Answer as answer
 use Rattle.wire_meaning.specs.Answer.{spelled}
 use Rattle.run_meaning.specs.Counts.{number_of, is_gone_by_in}
 use Rattle.hub_lines.specs.Told.{taken_of}
-use Rattle.hub_lines.specs.State.{entry_of, is_gone, is_present}
-use Rattle.hub_lines.specs.Lines.{StandsFor}
-use Rattle.hub_lines.specs.Moves.{buffered_of}
+use Rattle.hub_lines.specs.State.{Server, entry_at, numbered_at, ring_at, cork_at, pending_at, is_gone, is_present}
+use Rattle.hub_lines.specs.Lines.{Stands, StandsFor}
+use Rattle.hub_lines.specs.Moves.{buffered_at, with_pending}
 use Rattle.hub_lines.specs.Calls.{Beside, Ties, SameLinesElsewhere, ShortRings, only}
 use Rattle.hub_lines.proofs.StepLemmas.{stands_point}
 use Rattle.hub_lines.proofs.LineLemmas.{keeps_only, beside_then, line_gone, only_here, only_other}
 use Rattle.hub_lines.proofs.CallLemmas.{lines_elsewhere_then}
-use Rattle.hub_notes.specs.Noted.{is_link_failure}
+use Rattle.run_meaning.specs.Performs.{is_link_failure}
 use Rattle.hub_notes.specs.NetAfter.{RoseBy, FailsAfter}
-use Rattle.hub_notes.specs.Fronts.{TakesFront, KeepsFront, KeepsFronts, FailsWithin}
+use Rattle.hub_lines.specs.Fronts.{TakesFront, FailsWithin}
+use Rattle.hub_notes.specs.Fronts.{KeepsFront, KeepsFronts}
 use Rattle.hub_notes.specs.Calls.{Advances, Proceeds, Appends}
 use Rattle.hub_notes.proofs.BoolLemmas.{clash}
 use Rattle.hub_notes.proofs.NoteLemmas.{outgoing_both}
@@ -29,9 +29,7 @@ use Rattle.hub_notes.proofs.FrontLemmas.{front_then}
 use Rattle.socket_core.specs.Items.{IsSent}
 use Rattle.socket_core.specs.declared.item.Item.{Item}
 use Rattle.socket_core.specs.declared.socket.Kept.TheVariants.{Failed}
-use Rattle.hub_table.specs.Table.{TableState}
-use Rattle.hub_core.specs.State.{hub_of, server_of}
-use Rattle.hub_core.proofs.TableSteps.{PutsItem, Leaves}
+use Rattle.hub_core.specs.Changes.{PutsItem, Leaves}
 use Rattle.hub_core.proofs.SentLemmas.{sent_outgoing, failures_after, gone_by_after}
 use Rattle.hub_core.proofs.ItemLemmas.{octets_sent}
 use Rattle.hub_core.proofs.StateLemmas.{is_there, told_before}
@@ -62,98 +60,99 @@ or_none : (b g : Bool) → g ≡ false → b ≡ (b || g)
 or_none true g e = refl
 or_none false g e = sym e
 
-counted_before : (m last : ℕ) → (m + 0) + 1 < last → m < last
-counted_before m last few = omega arith
+counted_before : (m k last : ℕ) → (m + k) + 1 < last → m < last
+counted_before m k last few = omega arith
 
-module _ {c : ℕ} {item : Item} {a b d : TableState} {n0 n1 n2 : NetState} {t0 t1 t2 : Option (List NoteValue)} (p : PutsItem c item Failed a b n0 n1 t0 t1) (l : Leaves c LinkFailed b d n1 n2 t1 t2) (there : is_gone (entry_of a.entries c).phase ≡ false) where
+module _ {c : ℕ} {item : Item} {a b d : Server} (p : PutsItem c item Failed a b) (l : Leaves c LinkFailed b d) (there : is_gone (entry_at a.hub c).phase ≡ false) where
   abbrev notes : List NoteValue
   notes = p.offers.notes ++ note.gone c LinkFailed ∷ []
 
-  fail_advances : Advances notes (server_of a n0 t0) (server_of d n2 t2)
-  fail_advances = advances_then p.offers.notes (note.gone c LinkFailed ∷ []) (server_of a n0 t0) (server_of b n1 t1) (server_of d n2 t2)
-      (put_advances p there) (leave_advances l (ap is_gone p.phase ∙ there) (may_leave (entry_of b.entries c).phase LinkFailed refl))
+  fail_advances : Advances notes a d
+  fail_advances = advances_then p.offers.notes (note.gone c LinkFailed ∷ []) a b d
+      (put_advances p there) (leave_advances l (ap is_gone p.phase ∙ there) (may_leave (entry_at b.hub c).phase LinkFailed refl))
 
   gone_by : (x : ℕ) → is_gone_by_in x LinkFailed notes ≡ ((nat_eq c x && true) || false)
   gone_by x = gone_by_after c x LinkFailed p.offers.notes (note.gone c LinkFailed ∷ []) p.offers.own
 
-  fail_broken : n0.tells ≡ true → (x : ℕ) → n2.broken x ≡ (n0.broken x || is_gone_by_in x LinkFailed notes)
+  fail_broken : a.net.tells ≡ true → (x : ℕ) → d.net.broken x ≡ (a.net.broken x || is_gone_by_in x LinkFailed notes)
   fail_broken t x = (l.shuts.told (p.net.net.tells ∙ t)).traffic.broken x ∙ ⊎_elim
-      (λ (q : x ≡ c). subst (λ (z : ℕ). n1.broken z ≡ (n0.broken z || is_gone_by_in z LinkFailed notes)) (sym q)
-      (p.failed.broken t ∙ or_true (n0.broken c) (is_gone_by_in c LinkFailed notes) (gone_by c ∙ ap (λ (z : Bool). (z && true) || false) (same_number c))))
+      (λ (q : x ≡ c). subst (λ (z : ℕ). b.net.broken z ≡ (a.net.broken z || is_gone_by_in z LinkFailed notes)) (sym q)
+      (p.failed.broken t ∙ or_true (a.net.broken c) (is_gone_by_in c LinkFailed notes) (gone_by c ∙ ap (λ (z : Bool). (z && true) || false) (same_number c))))
       (λ (ne : x ≢ c). (p.net.told t).elsewhere.broken x ne
-      ∙ or_none (n0.broken x) (is_gone_by_in x LinkFailed notes) (gone_by x ∙ ap (λ (z : Bool). (z && true) || false) (other_number c x ne)))
+      ∙ or_none (a.net.broken x) (is_gone_by_in x LinkFailed notes) (gone_by x ∙ ap (λ (z : Bool). (z && true) || false) (other_number c x ne)))
       (cases_eq x c)
 
-  fail_fails : FailsAfter notes n0 n2
+  fail_fails : FailsAfter notes a.net d.net
   fail_fails = record {
     broken = fail_broken;
-    faults = rose_by_one (number_of is_link_failure notes) n0.faults n2.faults (failures_after c p.offers.notes (note.gone c LinkFailed ∷ []) p.offers.own)
-        (subst (λ (z : ℕ). Rose n0.faults z) (sym l.shuts.faults) p.failed.faults);
+    faults = rose_by_one (number_of is_link_failure notes) a.net.faults d.net.faults (failures_after c p.offers.notes (note.gone c LinkFailed ∷ []) p.offers.own)
+        (subst (λ (z : ℕ). Rose a.net.faults z) (sym l.shuts.faults) p.failed.faults);
   }
 
   -- the notes tell what the link took, and that the connection is gone
-  pub fail_proceeds : Proceeds [] [] (server_of a n0 t0) (server_of d n2 t2)
+  pub fail_proceeds : Proceeds [] [] a d
   fail_proceeds = record {
     sending = notes;
     outgoing = outgoing_both p.offers.notes (note.gone c LinkFailed ∷ []) (sent_outgoing c p.offers.notes p.offers.own) refl;
-    advances = subst (λ (z : List NoteValue). Advances z (server_of a n0 t0) (server_of d n2 t2)) (sym (append-nil notes)) fail_advances;
-    fails = subst (λ (z : List NoteValue). FailsAfter z n0 n2) (sym (append-nil notes)) fail_fails;
+    advances = subst (λ (z : List NoteValue). Advances z a d) (sym (append-nil notes)) fail_advances;
+    fails = subst (λ (z : List NoteValue). FailsAfter z a.net d.net) (sym (append-nil notes)) fail_fails;
   }
 
-  fail_beside : Beside c (server_of a n0 t0) (server_of d n2 t2)
+  fail_beside : Beside c a d
   fail_beside = beside_then (put_beside p) (leave_beside l)
 
-  pub fail_elsewhere : SameLinesElsewhere c (server_of a n0 t0) (server_of d n2 t2)
-  fail_elsewhere = lines_elsewhere_then c (server_of a n0 t0) (server_of b n1 t1) (server_of d n2 t2) (put_elsewhere p) (leave_lines l)
+  pub fail_elsewhere : SameLinesElsewhere c a d
+  fail_elsewhere = lines_elsewhere_then c a b d (put_elsewhere p) (leave_lines l)
 
-  pub fail_ties : Ties (server_of a n0 t0) → Ties (server_of d n2 t2)
+  pub fail_ties : Ties a → Ties d
   fail_ties ties = leave_ties l (put_ties p ties)
 
-  pub fail_gone : is_present (hub_of d) c ≡ false
+  pub fail_gone : is_present d.hub c ≡ false
   fail_gone = leave_gone l
 
   -- the link took a front of the items with this one behind them
-  fail_within : (sent : answer.Item) → IsSent item sent → (items : List answer.Item) → (entry_of a.entries c).numbered < 2 ^ 64 - 1 → StandsFor c (server_of a n0 t0) items
-      → TakesFront c (items ++ sent ∷ []) n1 t1
+  fail_within : (sent : answer.Item) → IsSent item sent → (items : List answer.Item) → (entry_at a.hub c).numbered < 2 ^ 64 - 1 → StandsFor c a items
+      → TakesFront c (items ++ sent ∷ []) b.net b.told
   fail_within sent s items few stands =
-      subst (λ (z : List ℕ). FailsWithin c (z ∷ []) (buffered_of (entry_of a.entries c) []) n0 n1 t0 t1) (octets_sent item sent s) (p.front refl)
-      few [] (items ++ sent ∷ []) (stands_point c (entry_of a.entries c).numbered (entry_of a.entries c).ring [] [] (taken_of n0 c) t0 items sent stands)
+      subst (λ (z : List ℕ). FailsWithin c (z ∷ []) (buffered_at a.hub c) a.net b.net a.told b.told) (octets_sent item sent s) (p.front refl)
+      few [] (items ++ sent ∷ []) (stands_point c (numbered_at a.hub c) (ring_at a.hub c) (cork_at a.hub c) [] (taken_of a.net c) a.told items sent
+      (subst (λ (z : List (List ℕ)). Stands c (with_pending (buffered_at a.hub c) z) (taken_of a.net c) a.told items) p.before stands))
 
-  fail_front : (sent : answer.Item) → IsSent item sent → KeepsFront c (sent ∷ []) (server_of a n0 t0) (server_of d n2 t2)
+  fail_front : (sent : answer.Item) → IsSent item sent → KeepsFront c (sent ∷ []) a d
   fail_front sent s =
-      let was : is_present (hub_of a) c ≡ true = is_there (is_gone (entry_of a.entries c).phase) there in
+      let was : is_present a.hub c ≡ true = is_there (is_gone (entry_at a.hub c).phase) there in
       record {
         tells = l.shuts.net.tells ∙ p.net.net.tells;
-        told = λ now e. let q = leave_before l now e in told_before t0 t1 p.offers.notes p.offers.told q.0 q.1;
-        count = λ is few. clash (is_present (hub_of d) c) fail_gone is;
+        told = λ now e. let q = leave_before l now e in told_before a.told b.told p.offers.notes p.offers.told q.0 q.1;
+        count = λ is few. clash (is_present d.hub c) fail_gone is;
         front = λ was gone few items stands.
-            front_later c (items ++ sent ∷ []) n1 n2 t1 t2 (leave_taken l c) (leave_before l) (leave_drops l c)
-            (fail_within sent s items (counted_before (entry_of a.entries c).numbered (2 ^ 64 - 1) few) stands);
-        taken = λ gone. clash (is_present (hub_of a) c) gone was;
-        drops = λ gone. clash (is_present (hub_of a) c) gone was;
+            front_later c (items ++ sent ∷ []) b.net d.net b.told d.told (leave_taken l c) (leave_before l) (leave_drops l c)
+            (fail_within sent s items (counted_before (numbered_at a.hub c) (length (pending_at a.hub c)) (2 ^ 64 - 1) few) stands);
+        taken = λ gone. clash (is_present a.hub c) gone was;
+        drops = λ gone. clash (is_present a.hub c) gone was;
       }
 
-  fail_front_other : (x : ℕ) → x ≢ c → KeepsFront x [] (server_of a n0 t0) (server_of d n2 t2)
-  fail_front_other x ne = front_then x [] [] (server_of a n0 t0) (server_of b n1 t1) (server_of d n2 t2)
+  fail_front_other : (x : ℕ) → x ≢ c → KeepsFront x [] a d
+  fail_front_other x ne = front_then x [] [] a b d
       (put_front_other p x ne) ((put_beside p).lines x ne) (leave_front_other l x ne) ((leave_beside l).lines x ne)
 
-  fail_fronts : (sent : answer.Item) → IsSent item sent → KeepsFronts (only c sent) (server_of a n0 t0) (server_of d n2 t2)
+  fail_fronts : (sent : answer.Item) → IsSent item sent → KeepsFronts (only c sent) a d
   fail_fronts sent s x below = ⊎_elim
-      (λ (q : x ≡ c). subst (λ (z : ℕ). KeepsFront z (only c sent z) (server_of a n0 t0) (server_of d n2 t2)) (sym q)
-      (subst (λ (z : List answer.Item). KeepsFront c z (server_of a n0 t0) (server_of d n2 t2)) (sym (only_here c sent)) (fail_front sent s)))
-      (λ (ne : x ≢ c). subst (λ (z : List answer.Item). KeepsFront x z (server_of a n0 t0) (server_of d n2 t2)) (sym (only_other c x sent ne)) (fail_front_other x ne))
+      (λ (q : x ≡ c). subst (λ (z : ℕ). KeepsFront z (only c sent z) a d) (sym q)
+      (subst (λ (z : List answer.Item). KeepsFront c z a d) (sym (only_here c sent)) (fail_front sent s)))
+      (λ (ne : x ≢ c). subst (λ (z : List answer.Item). KeepsFront x z a d) (sym (only_other c x sent ne)) (fail_front_other x ne))
       (cases_eq x c)
 
-  fail_short : ShortRings (server_of a n0 t0) → ShortRings (server_of d n2 t2)
+  fail_short : ShortRings a → ShortRings d
   fail_short short x is = ⊎_elim
-      (λ (q : x ≡ c). clash (is_present (hub_of d) x) (ap (λ (z : ℕ). is_present (hub_of d) z) q ∙ fail_gone) is)
+      (λ (q : x ≡ c). clash (is_present d.hub x) (ap (λ (z : ℕ). is_present d.hub z) q ∙ fail_gone) is)
       (λ (ne : x ≢ c). leave_short_other l x ne (put_short_other p x ne (short x (fail_elsewhere.present x ne is))))
       (cases_eq x c)
 
   -- the item is appended
-  pub fail_appends : (sent : answer.Item) → IsSent item sent → Appends (only c sent) (server_of a n0 t0) (server_of d n2 t2)
+  pub fail_appends : (sent : answer.Item) → IsSent item sent → Appends (only c sent) a d
   fail_appends sent s = record {
-    lines = keeps_only c sent (server_of a n0 t0) (server_of d n2 t2) fail_beside (line_gone c (sent ∷ []) (server_of a n0 t0) (server_of d n2 t2) fail_gone);
+    lines = keeps_only c sent a d fail_beside (line_gone c (sent ∷ []) a d fail_gone);
     fronts = fail_fronts sent s;
     short = fail_short;
     waits = λ waits. leave_waits l (put_waits p waits);

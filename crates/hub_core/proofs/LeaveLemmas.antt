@@ -13,7 +13,7 @@ use Rattle.wire_meaning.specs.Answer.{Item}
 use Rattle.run_meaning.specs.Counts.{is_gone_in}
 use Rattle.run_meaning.specs.Notes.{is_left}
 use Rattle.hub_lines.specs.Told.{taken_of, is_dropped, ShortWhereHeld}
-use Rattle.hub_lines.specs.State.{Entry, entry_of, has_entry, is_gone, is_present}
+use Rattle.hub_lines.specs.State.{Entry, Server, entry_at, numbered_at, ring_at, pending_at, is_gone, is_present}
 use Rattle.hub_lines.specs.Lines.{Held, held_at, held_octets, Stands, StandsFor, IsCounted}
 use Rattle.hub_lines.specs.Moves.{Others}
 use Rattle.hub_lines.specs.Calls.{Beside, Ties, SameElsewhere, SameLinesElsewhere, ShortRings, nothing}
@@ -22,18 +22,25 @@ use Rattle.hub_lines.proofs.NetLemmas.{taken_shut}
 use Rattle.hub_lines.proofs.StepLemmas.{others_shut}
 use Rattle.hub_lines.proofs.LineLemmas.{keeps_of, line_gone}
 use Rattle.hub_lines.proofs.CallLemmas.{ties_shut}
-use Rattle.hub_notes.specs.Noted.{AreNoted}
+use Rattle.ws_kinds.specs.Watch.{AreNoted}
 use Rattle.hub_notes.specs.NetAfter.{TrafficAfter, NetAfter, RoseBy, FailsAfter}
-use Rattle.hub_notes.specs.Fronts.{TakesFront, TakesAll, SameDrops, KeepsFront, KeepsFronts, RingsWait, items_at}
-use Rattle.hub_notes.specs.Progress.{unless_gone, progress_at, progress_by, progress_after_all, may_come, may_all_come, may_leave_by, due_of}
+use Rattle.hub_lines.specs.Fronts.{TakesFront, TakesAll}
+use Rattle.hub_notes.specs.Fronts.{SameDrops, KeepsFront, KeepsFronts, RingsWait, items_at}
+use Rattle.run_meaning.specs.Orders.{unless_gone}
+use Rattle.hub_notes.specs.Progress.{progress_at, progress_by, progress_after_all, may_come, may_all_come, may_leave_by, due_at, topics_at}
 use Rattle.hub_notes.specs.Calls.{Advances, Appends}
 use Rattle.hub_notes.proofs.BoolLemmas.{clash, or_false}
 use Rattle.hub_notes.proofs.NoteLemmas.{told_one}
-use Rattle.hub_table.specs.Table.{TableState, IsTable, due_when_gone}
-use Rattle.hub_core.specs.State.{hub_of, server_of}
-use Rattle.hub_core.proofs.TableSteps.{Leaves}
+use Rattle.hub_notes.specs.Table.{IsTable, table_of, due_when_gone}
+use Rattle.hub_notes.specs.Tells.{tell_at}
+use Rattle.hub_notes.specs.Quiet.{SameCounts}
+use Rattle.run_meaning.specs.Tell.{nothing_told, tell_by_all}
+use Rattle.run_meaning.specs.Lines.{topics_left, leaves_open}
+use Rattle.hub_core.specs.Changes.{Leaves, Goes}
+use Rattle.hub_core.specs.Sends.{Notes, LosesLink}
 use Rattle.hub_core.proofs.SentLemmas.{progress_with, short_still}
-use Rattle.hub_core.proofs.StateLemmas.{progress_of, is_away, is_there, present_same, progress_same, entry_kept, beside_change, elsewhere_same, lines_elsewhere, told_before, drops_same, front_still}
+use Rattle.hub_core.proofs.StateLemmas.{progress_of, is_away, is_there, change_present, change_progress, change_elsewhere, entry_kept, beside_change, lines_elsewhere, told_before, drops_same, front_still}
+use Rattle.hub_core.proofs.NoteLemmas.{counts_changed}
 
 -- ---- the note
 
@@ -74,13 +81,13 @@ may_leave Gone Idle e = refl
 may_leave Ending left e = refl
 may_leave phase Finished e = clash true e refl
 
-gone_progress : (c : ℕ) (left : Left) (phase : Phase) (due : Option (ℕ × List ℕ)) → is_gone phase ≡ false
-    → progress_by (note.gone c left) (progress_of phase due) ≡ progress_with None (due_when_gone phase due)
-gone_progress c left Head due e = refl
-gone_progress c left Open due e = refl
-gone_progress c left Leaving due e = refl
-gone_progress c left Ending due e = refl
-gone_progress c left Gone due e = clash true e refl
+gone_progress : (c : ℕ) (left : Left) (phase : Phase) (topics : List (List ℕ)) (due : Option (ℕ × List ℕ)) → is_gone phase ≡ false
+    → progress_by (note.gone c left) (progress_of phase topics due) ≡ progress_with None (topics_left (Some phase) (Some Gone) topics) (due_when_gone phase due)
+gone_progress c left Head topics due e = refl
+gone_progress c left Open topics due e = refl
+gone_progress c left Leaving topics due e = refl
+gone_progress c left Ending topics due e = refl
+gone_progress c left Gone topics due e = clash true e refl
 
 if_here : {A : Type 0} (b : Bool) (x y : A) → b ≡ true → cond b x y ≡ x
 if_here b x y e = ap (λ (z : Bool). cond z x y) e
@@ -116,22 +123,22 @@ front_later x items n0 n1 t0 t1 taken told drops front = record {
       (w.0, kept_same (is_dropped x q.0) (is_dropped x notes) 0 items (λ j low high. drops q.0 notes q.1 en j) ∙ w.1);
 }
 
-counted : (m last : ℕ) → (m + 0) + 0 < last → m < last
-counted m last few = omega arith
+counted : (m k last : ℕ) → (m + k) + 0 < last → m < last
+counted m k last few = omega arith
 
-counted_at : (m last : ℕ) → m + 0 < last → m < last
-counted_at m last few = omega arith
+counted_at : (m k last : ℕ) → m + k < last → m < last
+counted_at m k last few = omega arith
 
-module _ {c : ℕ} {left : Left} {a b : TableState} {n0 n1 : NetState} {t0 t1 : Option (List NoteValue)} (l : Leaves c left a b n0 n1 t0 t1) where
-  leave_told : AreNoted t0 (note.gone c left ∷ []) t1
-  leave_told = told_one t0 t1 (note.gone c left) l.noted
+module _ {c : ℕ} {left : Left} {a b : Server} (l : Leaves c left a b) where
+  leave_told : AreNoted a.told (note.gone c left ∷ []) b.told
+  leave_told = told_one a.told b.told (note.gone c left) l.noted
 
   -- ---- the net
 
-  leave_traffic : n0.tells ≡ true → TrafficAfter (note.gone c left ∷ []) n0 n1
+  leave_traffic : a.net.tells ≡ true → TrafficAfter (note.gone c left ∷ []) a.net b.net
   leave_traffic t = let told = l.shuts.told t in record {
-    wrote = λ x. told.traffic.wrote x ∙ sym (append-nil (n0.wrote x));
-    taken = λ x. ap (λ (z : List ℕ). length z) (told.traffic.taken x) ∙ no_more (length (n0.taken x));
+    wrote = λ x. told.traffic.wrote x ∙ sym (append-nil (a.net.wrote x));
+    taken = λ x. ap (λ (z : List ℕ). length z) (told.traffic.taken x) ∙ no_more (length (a.net.taken x));
     given = told.traffic.given;
     ended = told.traffic.ended;
     passed = told.passed;
@@ -155,14 +162,14 @@ module _ {c : ℕ} {left : Left} {a b : TableState} {n0 n1 : NetState} {t0 t1 : 
   stays true g e = ap (λ (z : Bool). not z) (sym e)
   stays false g e = refl
 
-  pub leave_net : NetAfter (note.gone c left ∷ []) n0 n1
+  pub leave_net : NetAfter (note.gone c left ∷ []) a.net b.net
   leave_net = record {
     net = l.shuts.net;
     told = leave_traffic;
     live = λ x. ⊎_elim
-        (λ (q : x ≡ c). subst (λ (z : ℕ). n1.live z ≡ (n0.live z && not (is_gone_in z (note.gone c left ∷ [])))) (sym q)
-        (l.shuts.live ∙ dies (n0.live c) (is_gone_in c (note.gone c left ∷ [])) gone_here))
-        (λ (ne : x ≢ c). l.shuts.live_elsewhere x ne ∙ stays (n0.live x) (is_gone_in x (note.gone c left ∷ [])) (gone_other x ne))
+        (λ (q : x ≡ c). subst (λ (z : ℕ). b.net.live z ≡ (a.net.live z && not (is_gone_in z (note.gone c left ∷ [])))) (sym q)
+        (l.shuts.live ∙ dies (a.net.live c) (is_gone_in c (note.gone c left ∷ [])) gone_here))
+        (λ (ne : x ≢ c). l.shuts.live_elsewhere x ne ∙ stays (a.net.live x) (is_gone_in x (note.gone c left ∷ [])) (gone_other x ne))
         (cases_eq x c);
     due = λ x none. l.shuts.due_elsewhere x (λ q. clash (is_gone_in x (note.gone c left ∷ [])) none (ap (λ (z : ℕ). is_gone_in z (note.gone c left ∷ [])) q ∙ gone_here));
     named = l.shuts.named;
@@ -175,10 +182,10 @@ module _ {c : ℕ} {left : Left} {a b : TableState} {n0 n1 : NetState} {t0 t1 : 
   same_count : (old new : ℕ) → new ≡ old → RoseBy 0 old new
   same_count old new same = record { none = λ z. same; each = inl (omega arith) }
 
-  pub leave_fails_none : FailsAfter [] n0 n1
+  pub leave_fails_none : FailsAfter [] a.net b.net
   leave_fails_none = record {
-    broken = λ t x. (l.shuts.told t).traffic.broken x ∙ or_false (n0.broken x);
-    faults = same_count n0.faults n1.faults l.shuts.faults;
+    broken = λ t x. (l.shuts.told t).traffic.broken x ∙ or_false (a.net.broken x);
+    faults = same_count a.net.faults b.net.faults l.shuts.faults;
   }
 
   none_by : (b : Bool) (g : Bool) → g ≡ false → ((b && g) || false) ≡ false
@@ -186,130 +193,185 @@ module _ {c : ℕ} {left : Left} {a b : TableState} {n0 n1 : NetState} {t0 t1 : 
   none_by false g e = refl
 
   -- unless the note says so
-  pub leave_fails : is_left LinkFailed left ≡ false → FailsAfter (note.gone c left ∷ []) n0 n1
+  pub leave_fails : is_left LinkFailed left ≡ false → FailsAfter (note.gone c left ∷ []) a.net b.net
   leave_fails other = record {
-    broken = λ t x. (l.shuts.told t).traffic.broken x ∙ or_false (n0.broken x)
-        ∙ ap (λ (z : Bool). n0.broken x || z) (sym (none_by (nat_eq c x) (is_left LinkFailed left) other));
-    faults = subst (λ (z : ℕ). RoseBy z n0.faults n1.faults) (sym (if_else (is_left LinkFailed left) 1 0 other)) (same_count n0.faults n1.faults l.shuts.faults);
+    broken = λ t x. (l.shuts.told t).traffic.broken x ∙ or_false (a.net.broken x)
+        ∙ ap (λ (z : Bool). a.net.broken x || z) (sym (none_by (nat_eq c x) (is_left LinkFailed left) other));
+    faults = subst (λ (z : ℕ). RoseBy z a.net.faults b.net.faults) (sym (if_else (is_left LinkFailed left) 1 0 other)) (same_count a.net.faults b.net.faults l.shuts.faults);
   }
 
   -- ---- how far connections are
 
-  leave_may : is_gone (entry_of a.entries c).phase ≡ false → may_leave_by (Some (entry_of a.entries c).phase) left ≡ true → (x : ℕ) → may_all_come x (note.gone c left ∷ []) (progress_at (hub_of a) x) ≡ true
+  leave_may : is_gone (entry_at a.hub c).phase ≡ false → may_leave_by (Some (entry_at a.hub c).phase) left ≡ true → (x : ℕ) → may_all_come x (note.gone c left ∷ []) (progress_at a.hub x) ≡ true
   leave_may there may x = ap (λ (z : Bool). z && true) (⊎_elim
-      (λ (q : x ≡ c). subst (λ (z : ℕ). cond (nat_eq c z) (may_come (progress_at (hub_of a) z).phase (note.gone c left)) true ≡ true) (sym q)
-      (if_here (nat_eq c c) (may_come (progress_at (hub_of a) c).phase (note.gone c left)) true (same_number c) ∙ may_gone c left (entry_of a.entries c).phase there may))
-      (λ (ne : x ≢ c). if_else (nat_eq c x) (may_come (progress_at (hub_of a) x).phase (note.gone c left)) true (other_number c x ne))
+      (λ (q : x ≡ c). subst (λ (z : ℕ). cond (nat_eq c z) (may_come (progress_at a.hub z).phase (note.gone c left)) true ≡ true) (sym q)
+      (if_here (nat_eq c c) (may_come (progress_at a.hub c).phase (note.gone c left)) true (same_number c) ∙ may_gone c left (entry_at a.hub c).phase there may))
+      (λ (ne : x ≢ c). if_else (nat_eq c x) (may_come (progress_at a.hub x).phase (note.gone c left)) true (other_number c x ne))
       (cases_eq x c))
 
-  leave_progress : is_gone (entry_of a.entries c).phase ≡ false → (x : ℕ) → progress_at (hub_of b) x ≡ progress_after_all x (note.gone c left ∷ []) (progress_at (hub_of a) x)
+  leave_progress : is_gone (entry_at a.hub c).phase ≡ false → (x : ℕ) → progress_at b.hub x ≡ progress_after_all x (note.gone c left ∷ []) (progress_at a.hub x)
   leave_progress there x = ⊎_elim
-      (λ (q : x ≡ c). subst (λ (z : ℕ). progress_at (hub_of b) z ≡ progress_after_all z (note.gone c left ∷ []) (progress_at (hub_of a) z)) (sym q)
-      (ap (λ (z : Option Phase). progress_with z (due_of b.partings c)) (phase_away (entry_of b.entries c).phase l.gone)
-      ∙ ap (λ (z : Option (ℕ × List ℕ)). progress_with None z) l.due
-      ∙ sym (gone_progress c left (entry_of a.entries c).phase (due_of a.partings c) there)
-      ∙ sym (if_here (nat_eq c c) (progress_by (note.gone c left) (progress_at (hub_of a) c)) (progress_at (hub_of a) c) (same_number c))))
-      (λ (ne : x ≢ c). progress_same a b x (ap (λ (z : Entry). z.phase) (l.change.entries x ne)) (l.change.due x ne)
-      ∙ sym (if_else (nat_eq c x) (progress_by (note.gone c left) (progress_at (hub_of a) x)) (progress_at (hub_of a) x) (other_number c x ne)))
+      (λ (q : x ≡ c). subst (λ (z : ℕ). progress_at b.hub z ≡ progress_after_all z (note.gone c left ∷ []) (progress_at a.hub z)) (sym q)
+      (ap (λ (z : Option Phase). progress_with z (topics_at b.hub c) (due_at b.hub c)) (phase_away (entry_at b.hub c).phase l.gone)
+      ∙ ap (λ (z : List (List ℕ)). progress_with None z (due_at b.hub c)) l.topics
+      ∙ ap (λ (z : Option (ℕ × List ℕ)). progress_with None (topics_left (Some (entry_at a.hub c).phase) (Some Gone) (topics_at a.hub c)) z) l.due
+      ∙ sym (gone_progress c left (entry_at a.hub c).phase (topics_at a.hub c) (due_at a.hub c) there)
+      ∙ sym (if_here (nat_eq c c) (progress_by (note.gone c left) (progress_at a.hub c)) (progress_at a.hub c) (same_number c))))
+      (λ (ne : x ≢ c). change_progress l.change x ne
+      ∙ sym (if_else (nat_eq c x) (progress_by (note.gone c left) (progress_at a.hub x)) (progress_at a.hub x) (other_number c x ne)))
       (cases_eq x c)
 
-  pub leave_advances : is_gone (entry_of a.entries c).phase ≡ false → may_leave_by (Some (entry_of a.entries c).phase) left ≡ true
-      → Advances (note.gone c left ∷ []) (server_of a n0 t0) (server_of b n1 t1)
-  leave_advances there may = record { told = leave_told; may_come = leave_may there may; progress = leave_progress there; net = leave_net }
+  leave_tells : (x : ℕ) → tell_at b.hub x ≡ tell_by_all x (note.gone c left ∷ []) (tell_at a.hub x)
+  leave_tells x = ⊎_elim
+      (λ (q : x ≡ c). subst (λ (z : ℕ). tell_at b.hub z ≡ tell_by_all z (note.gone c left ∷ []) (tell_at a.hub z)) (sym q)
+      (l.tells ∙ sym (if_here (nat_eq c c) nothing_told (tell_at a.hub c) (same_number c))))
+      (λ (ne : x ≢ c). l.change.tells x ne ∙ sym (if_else (nat_eq c x) nothing_told (tell_at a.hub x) (other_number c x ne)))
+      (cases_eq x c)
+
+  leave_counts : SameCounts a.hub b.hub
+  leave_counts = counts_changed c a.hub b.hub l.change (λ there. clash (is_present b.hub c) (is_away (is_gone (entry_at b.hub c).phase) l.gone) there)
+
+  pub leave_advances : is_gone (entry_at a.hub c).phase ≡ false → may_leave_by (Some (entry_at a.hub c).phase) left ≡ true
+      → Advances (note.gone c left ∷ []) a b
+  leave_advances there may = record { told = leave_told; may_come = leave_may there may; progress = leave_progress there; tells = λ _. leave_tells; counts = λ _. leave_counts; net = leave_net }
 
   -- ---- lines
 
-  pub leave_gone : is_present (hub_of b) c ≡ false
-  leave_gone = is_away (is_gone (entry_of b.entries c).phase) l.gone
+  pub leave_gone : is_present b.hub c ≡ false
+  leave_gone = is_away (is_gone (entry_at b.hub c).phase) l.gone
 
-  leave_present : (x : ℕ) → x ≢ c → is_present (hub_of b) x ≡ is_present (hub_of a) x
-  leave_present x ne = present_same a b x (ap (λ (z : Entry). z.phase) (l.change.entries x ne))
+  leave_present : (x : ℕ) → x ≢ c → is_present b.hub x ≡ is_present a.hub x
+  leave_present x ne = change_present l.change x ne
 
-  pub leave_others : Others c n0 n1 t0 t1
-  leave_others = others_shut c (note.gone c left) n0 n1 t0 t1 l.shuts l.noted (λ x. refl)
+  pub leave_others : Others c a.net b.net a.told b.told
+  leave_others = others_shut c (note.gone c left) a.net b.net a.told b.told l.shuts l.noted (λ x. refl)
 
-  pub leave_beside : Beside c (server_of a n0 t0) (server_of b n1 t1)
-  leave_beside = beside_change c a b n0 n1 t0 t1 l.change leave_others
+  pub leave_beside : Beside c a b
+  leave_beside = beside_change c a b l.change leave_others
 
-  pub leave_lines : SameLinesElsewhere c (server_of a n0 t0) (server_of b n1 t1)
-  leave_lines = lines_elsewhere c a b n0 n1 t0 t1 l.change l.shuts.net.tells (λ x ne t. (l.shuts.told t).traffic.taken x)
+  pub leave_lines : SameLinesElsewhere c a b
+  leave_lines = lines_elsewhere c a b l.change l.shuts.net.tells (λ x ne t. (l.shuts.told t).traffic.taken x)
 
-  pub leave_elsewhere : ((x : ℕ) → x ≢ c → has_entry b.entries x ≡ has_entry a.entries x) → SameElsewhere c (hub_of a) (hub_of b)
-  leave_elsewhere has = elsewhere_same c a b l.change has
+  pub leave_elsewhere : IsTable (table_of a.hub) → IsTable (table_of b.hub) → SameElsewhere c a.hub b.hub
+  leave_elsewhere was is = change_elsewhere l.change (entry_kept c (table_of a.hub) (table_of b.hub) l.change.table was is)
 
-  -- of two tables
-  pub leave_elsewhere_of : IsTable a → IsTable b → SameElsewhere c (hub_of a) (hub_of b)
-  leave_elsewhere_of was is = leave_elsewhere (entry_kept c a b l.change was is)
-
-  pub leave_ties : Ties (server_of a n0 t0) → Ties (server_of b n1 t1)
-  leave_ties ties = ties_shut c (server_of a n0 t0) (server_of b n1 t1) ties l.shuts leave_gone (λ x ne there. sym (leave_present x ne) ∙ there)
+  pub leave_ties : Ties a → Ties b
+  leave_ties ties = ties_shut c a b ties l.shuts leave_gone (λ x ne there. sym (leave_present x ne) ∙ there)
 
   -- ---- fronts
 
-  pub leave_taken : (x : ℕ) → taken_of n1 x ≡ taken_of n0 x
-  leave_taken x = taken_shut c x n0 n1 l.shuts
+  pub leave_taken : (x : ℕ) → taken_of b.net x ≡ taken_of a.net x
+  leave_taken x = taken_shut c x a.net b.net l.shuts
 
-  pub leave_before : (notes : List NoteValue) → t1 ≡ Some notes → (earlier : List NoteValue) × (t0 ≡ Some earlier)
-  leave_before = told_before t0 t1 (note.gone c left ∷ []) leave_told
+  pub leave_before : (notes : List NoteValue) → b.told ≡ Some notes → (earlier : List NoteValue) × (a.told ≡ Some earlier)
+  leave_before = told_before a.told b.told (note.gone c left ∷ []) leave_told
 
-  pub leave_drops : (x : ℕ) → SameDrops x t0 t1
-  leave_drops x = drops_same x t0 t1 (note.gone c left ∷ []) leave_told refl
+  pub leave_drops : (x : ℕ) → SameDrops x a.told b.told
+  leave_drops x = drops_same x a.told b.told (note.gone c left ∷ []) leave_told refl
 
-  pub leave_front_other : (x : ℕ) → x ≢ c → KeepsFront x [] (server_of a n0 t0) (server_of b n1 t1)
-  leave_front_other x ne = front_still x a b n0 n1 t0 t1 (note.gone c left ∷ []) (l.change.entries x ne) l.shuts.net.tells (λ t. (l.shuts.told t).traffic.taken x) leave_told refl
+  pub leave_front_other : (x : ℕ) → x ≢ c → KeepsFront x [] a b
+  leave_front_other x ne = front_still c x a b (note.gone c left ∷ []) ne l.change l.shuts.net.tells (λ t. (l.shuts.told t).traffic.taken x) leave_told refl
 
-  leave_front : is_gone (entry_of a.entries c).phase ≡ false → KeepsFront c [] (server_of a n0 t0) (server_of b n1 t1)
+  leave_front : is_gone (entry_at a.hub c).phase ≡ false → KeepsFront c [] a b
   leave_front there =
-      let was : is_present (hub_of a) c ≡ true = is_there (is_gone (entry_of a.entries c).phase) there in
+      let was : is_present a.hub c ≡ true = is_there (is_gone (entry_at a.hub c).phase) there in
       record {
         tells = l.shuts.net.tells;
         told = leave_before;
-        count = λ is few. clash (is_present (hub_of b) c) leave_gone is;
-        front = λ was gone few items stands. subst (λ (z : List Item). TakesFront c z n1 t1) (sym (append-nil items))
-            (front_later c items n0 n1 t0 t1 (leave_taken c) leave_before (leave_drops c)
-            (front_at_once c items (held_at (hub_of a) c) n0 t0 (counted (entry_of a.entries c).numbered (2 ^ 64 - 1) few) stands));
-        taken = λ gone. clash (is_present (hub_of a) c) gone was;
-        drops = λ gone. clash (is_present (hub_of a) c) gone was;
+        count = λ is few. clash (is_present b.hub c) leave_gone is;
+        front = λ was gone few items stands. subst (λ (z : List Item). TakesFront c z b.net b.told) (sym (append-nil items))
+            (front_later c items a.net b.net a.told b.told (leave_taken c) leave_before (leave_drops c)
+            (front_at_once c items (held_at a.hub c) a.net a.told (counted (numbered_at a.hub c) (length (pending_at a.hub c)) (2 ^ 64 - 1) few) stands));
+        taken = λ gone. clash (is_present a.hub c) gone was;
+        drops = λ gone. clash (is_present a.hub c) gone was;
       }
 
-  leave_fronts : is_gone (entry_of a.entries c).phase ≡ false → KeepsFronts nothing (server_of a n0 t0) (server_of b n1 t1)
+  leave_fronts : is_gone (entry_at a.hub c).phase ≡ false → KeepsFronts nothing a b
   leave_fronts there x below = ⊎_elim
-      (λ (q : x ≡ c). subst (λ (z : ℕ). KeepsFront z [] (server_of a n0 t0) (server_of b n1 t1)) (sym q) (leave_front there))
+      (λ (q : x ≡ c). subst (λ (z : ℕ). KeepsFront z [] a b) (sym q) (leave_front there))
       (λ (ne : x ≢ c). leave_front_other x ne)
       (cases_eq x c)
 
-  pub leave_short_other : (x : ℕ) → x ≢ c → ShortWhereHeld x (entry_of a.entries x).ring t0 → ShortWhereHeld x (entry_of b.entries x).ring t1
-  leave_short_other x ne s = subst (λ (z : Entry). ShortWhereHeld x z.ring t1) (sym (l.change.entries x ne))
-      (short_still x (entry_of a.entries x).ring t0 t1 (note.gone c left ∷ []) leave_told refl s)
+  pub leave_short_other : (x : ℕ) → x ≢ c → ShortWhereHeld x (entry_at a.hub x).ring a.told → ShortWhereHeld x (entry_at b.hub x).ring b.told
+  leave_short_other x ne s = subst (λ (z : Entry). ShortWhereHeld x z.ring b.told) (sym (l.change.table.entries x ne))
+      (short_still x (entry_at a.hub x).ring a.told b.told (note.gone c left ∷ []) leave_told refl s)
 
-  leave_short : ShortRings (server_of a n0 t0) → ShortRings (server_of b n1 t1)
+  leave_short : ShortRings a → ShortRings b
   leave_short short x there = ⊎_elim
-      (λ (q : x ≡ c). clash (is_present (hub_of b) x) (ap (λ (z : ℕ). is_present (hub_of b) z) q ∙ leave_gone) there)
+      (λ (q : x ≡ c). clash (is_present b.hub x) (ap (λ (z : ℕ). is_present b.hub z) q ∙ leave_gone) there)
       (λ (ne : x ≢ c). leave_short_other x ne (short x (sym (leave_present x ne) ∙ there)))
       (cases_eq x c)
 
-  pub leave_waits : RingsWait (server_of a n0 t0) → RingsWait (server_of b n1 t1)
+  pub leave_waits : RingsWait a → RingsWait b
   leave_waits waits x there some = ⊎_elim
-      (λ (q : x ≡ c). clash (is_present (hub_of b) x) (ap (λ (z : ℕ). is_present (hub_of b) z) q ∙ leave_gone) there)
+      (λ (q : x ≡ c). clash (is_present b.hub x) (ap (λ (z : ℕ). is_present b.hub z) q ∙ leave_gone) there)
       (λ (ne : x ≢ c). l.shuts.writable_elsewhere x ne
-      ∙ waits x (sym (leave_present x ne) ∙ there) (λ none. some (ap (λ (z : Entry). z.ring) (l.change.entries x ne) ∙ none)))
+      ∙ waits x (sym (leave_present x ne) ∙ there) (λ none. some (ap (λ (z : Entry). z.ring) (l.change.table.entries x ne) ∙ none)))
       (cases_eq x c)
 
   -- nothing is appended
-  pub leave_appends : is_gone (entry_of a.entries c).phase ≡ false → Appends nothing (server_of a n0 t0) (server_of b n1 t1)
+  pub leave_appends : is_gone (entry_at a.hub c).phase ≡ false → Appends nothing a b
   leave_appends there = record {
-    lines = keeps_of c nothing (server_of a n0 t0) (server_of b n1 t1) leave_beside (λ x ne. refl) (line_gone c [] (server_of a n0 t0) (server_of b n1 t1) leave_gone);
+    lines = keeps_of c nothing a b leave_beside (λ x ne. refl) (line_gone c [] a b leave_gone);
     fronts = leave_fronts there;
     short = leave_short;
     waits = leave_waits;
   }
 
   -- the link took all items of a connection for which nothing was held
-  pub leave_takes_all : (entry_of a.entries c).ring ≡ [] → items_at (hub_of a) c < 2 ^ 64 - 1 → (items : List Item) → StandsFor c (server_of a n0 t0) items → TakesAll c items n1 t1
+  pub leave_takes_all : held_octets (held_at a.hub c) ≡ [] → items_at a.hub c < 2 ^ 64 - 1 → (items : List Item) → StandsFor c a items → TakesAll c items b.net b.told
   leave_takes_all none few items stands =
-      all_later c items n0 n1 t0 t1 (leave_taken c) leave_before (leave_drops c)
-      (all_at_once c items (held_at (hub_of a) c) n0 t0 (counted_at (entry_of a.entries c).numbered (2 ^ 64 - 1) few) (ap (λ (z : List ℕ). z ++ []) none) stands)
+      all_later c items a.net b.net a.told b.told (leave_taken c) leave_before (leave_drops c)
+      (all_at_once c items (held_at a.hub c) a.net a.told (counted_at (numbered_at a.hub c) (length (pending_at a.hub c)) (2 ^ 64 - 1) few) none stands)
 
   -- and that stays so for those who were gone before
-  pub leave_all_later : (x : ℕ) (items : List Item) → TakesAll x items n0 t0 → TakesAll x items n1 t1
-  leave_all_later x items all = all_later x items n0 n1 t0 t1 (leave_taken x) leave_before (leave_drops x) all
+  pub leave_all_later : (x : ℕ) (items : List Item) → TakesAll x items a.net a.told → TakesAll x items b.net b.told
+  leave_all_later x items all = all_later x items a.net b.net a.told b.told (leave_taken x) leave_before (leave_drops x) all
+
+  -- all of it
+  pub goes : is_gone (entry_at a.hub c).phase ≡ false → (ring_at a.hub c ≡ [] → held_octets (held_at a.hub c) ≡ []) → IsTable (table_of a.hub) → IsTable (table_of b.hub) → Goes c left a b
+  goes there whole was is = record {
+    leaves = l;
+    advances = leave_advances there;
+    quiet = leave_fails_none;
+    fails = leave_fails;
+    appends = leave_appends there;
+    elsewhere = leave_elsewhere was is;
+    ties = leave_ties;
+    whole = λ none. leave_takes_all (whole none);
+    away = leave_gone;
+    named = l.change.table.named;
+    table = is;
+  }
+
+-- a connection that is not open has no topics
+pub no_topics : (from to : Option Phase) → [] ≡ topics_left from to []
+no_topics from to = one (leaves_open from to)
+  where
+    no_list : List (List ℕ)
+    no_list = []
+
+    one : (b : Bool) → no_list ≡ cond b no_list no_list
+    one true = refl
+    one false = refl
+
+pub goes_notes : {c : ℕ} {left : Left} {a b : Server} → Goes c left a b → is_left Finished left ≡ false → is_left LinkFailed left ≡ false → Ties a → Notes c (note.gone c left ∷ []) a b
+goes_notes {c} {left} {a} g other quiet ties = record {
+  ties = g.ties ties;
+  makes = record { advances = g.advances (may_leave (entry_at a.hub c).phase left other); fails = g.fails quiet };
+  appends = g.appends;
+  elsewhere = g.elsewhere;
+  named = g.named;
+  table = g.table;
+}
+
+pub goes_loses : {c : ℕ} {a b : Server} → Goes c LinkFailed a b → Ties a → LosesLink c a b
+goes_loses {c} {a} g ties = record {
+  ties = g.ties ties;
+  advances = g.advances (may_leave (entry_at a.hub c).phase LinkFailed refl);
+  fails = g.quiet;
+  appends = g.appends;
+  elsewhere = g.elsewhere;
+  named = g.named;
+  table = g.table;
+}

@@ -1,4 +1,4 @@
-pub mod TableSteps
+pub mod HubSteps
 pub mod SentLemmas
 pub mod ItemLemmas
 pub mod StateLemmas
@@ -9,3 +9,9 @@ pub mod NoteLemmas
 pub mod CallLemmas
 pub mod TurnLemmas
 pub mod OrderLemmas
+pub mod ConnectionLemmas
+pub mod NumberLemmas
+pub mod IndexLemmas
+pub mod MapLemmas
+pub mod ChangeLemmas
+pub mod HeldLemmas

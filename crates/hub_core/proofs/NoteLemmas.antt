@@ -1,5 +1,5 @@
--- A note that says nothing of what was sent, beside a table in which it changes one connection or none.
-use Rattle.std.proofs.Common.{◌≡◌, ◌≢◌, ◌<◌, ◌≤◌, ◌+◌, ◌⊎◌, inl, inr, ℕ, List, [], ◌∷◌, ◌++◌, Option, Some, Bool, true, false, cond, not, ◌&&◌, ◌||◌, nat_eq, length, refl, sym, ap, ◌∙◌, subst, append-nil, arith}
+-- A note that says nothing of what was sent, beside a hub in which it changes one connection or none.
+use Rattle.std.proofs.Common.{◌≡◌, ◌≢◌, ◌<◌, ◌≤◌, ◌+◌, ◌⊎◌, inl, inr, ℕ, List, [], ◌∷◌, ◌++◌, Option, Bool, true, false, cond, not, ◌&&◌, ◌||◌, nat_eq, length, refl, sym, ap, ◌∙◌, subst, append-nil, arith}
 use Rattle.std.proofs.lemmas.Bool.Decides.{nat_tests}
 use Rattle.ws_kinds.specs.declared.note.Left.TheVariants.{LinkFailed}
 use Rattle.ws_kinds.specs.declared.note.Phase.{Phase}
@@ -9,24 +9,28 @@ use Rattle.ws_kinds.specs.Watch.{IsNoted}
 use Rattle.link_trait.specs.NetState.{NetState}
 use Rattle.run_meaning.specs.Notes.{is_of}
 use Rattle.run_meaning.specs.Counts.{writes, taken, number_of, is_gone_in, is_gone_by_in}
+use Rattle.run_meaning.specs.Tell.{Tell, tell_by}
 use Rattle.hub_lines.specs.Told.{is_silent, is_dropped, taken_of, ShortWhereHeld}
-use Rattle.hub_lines.specs.State.{HubState, Entry, server, is_gone, entry_of, is_present}
-use Rattle.hub_lines.specs.Lines.{held_at}
-use Rattle.hub_lines.specs.Calls.{KeepsLine, nothing}
+use Rattle.hub_lines.specs.State.{HubState, Entry, Server, server, is_gone, entry_at, is_present, ring_at, cork_at, pending_at}
+use Rattle.hub_lines.specs.Lines.{Held, held_at}
+use Rattle.hub_lines.specs.Calls.{KeepsLine, SameLinesElsewhere, Ties, nothing}
 use Rattle.hub_lines.proofs.KeptLemmas.{is_dropped_more}
 use Rattle.hub_lines.proofs.StepLemmas.{stands_silent, fair_silent, silent_drops}
 use Rattle.hub_lines.proofs.LineLemmas.{line_still}
 use Rattle.hub_lines.proofs.CallLemmas.{short_silent}
 use Rattle.hub_lines.proofs.NetLemmas.{split_told}
-use Rattle.hub_notes.specs.Noted.{is_link_failure}
-use Rattle.hub_notes.specs.Progress.{Progress, unless_gone, due_of, progress_at, progress_by, progress_after, may_come, may_all_come}
+use Rattle.run_meaning.specs.Performs.{is_link_failure}
+use Rattle.hub_notes.specs.Progress.{Progress, progress_at, progress_by, progress_after, may_come, may_all_come}
+use Rattle.hub_notes.specs.Tells.{TellsBy, tell_at}
+use Rattle.hub_notes.specs.Quiet.{CountsBeside, SameCounts, counts_at, count_of}
 use Rattle.hub_notes.specs.NetAfter.{NetAfter, FailsAfter, RoseBy}
-use Rattle.hub_notes.specs.Fronts.{KeepsFront, SameDrops}
+use Rattle.hub_notes.specs.Fronts.{KeepsFront, SameDrops, items_at}
 use Rattle.hub_notes.specs.Calls.{Advances, Appends}
 use Rattle.hub_notes.proofs.BoolLemmas.{by_cases, clash, and_true, or_false}
-use Rattle.hub_notes.proofs.NoteLemmas.{told_one}
-use Rattle.hub_table.specs.Table.{TableState, ChangesOne}
-use Rattle.hub_core.specs.State.{hub_of, server_of}
+use Rattle.hub_notes.proofs.NoteLemmas.{told_one, same_counts}
+use Rattle.hub_core.specs.Changes.{ChangesHub}
+use Rattle.hub_core.proofs.HubSteps.{Enters}
+use Rattle.hub_core.proofs.StateLemmas.{change_present, change_progress, change_named, lines_elsewhere}
 
 -- ---- what such a note leaves of the net
 
@@ -105,6 +109,8 @@ pub record NotesOne (c : ℕ) (n : NoteValue) (old new : HubState) : Type 0 wher
   pub may : is_of c n ≡ true → may_come (progress_at old c).phase n ≡ true
   pub here : progress_at new c ≡ progress_after c n (progress_at old c)
   pub elsewhere : (d : ℕ) → d ≢ c → progress_at new d ≡ progress_at old d
+  pub tells : TellsBy (n ∷ []) old new
+  pub counts : CountsBeside (n ∷ []) old new
 
 pub same_or_not : {A : Type 0} (c d : ℕ) → (d ≡ c → A) → (d ≢ c → A) → A
 same_or_not c d yes_ no_ = by_cases (nat_eq d c) (λ e. yes_ (grind (arith, nat_tests))) (λ e. no_ (λ same. clash (nat_eq d c) e (grind (arith, nat_tests))))
@@ -119,53 +125,69 @@ advances_noted c n old new net t t' told inner one = record {
   progress = λ d. same_or_not c d
       (λ e. subst (λ (z : ℕ). progress_at new z ≡ progress_after z n (progress_at old z)) (sym e) one.here)
       (λ ne. one.elsewhere d ne ∙ sym (after_other d n (progress_at old d) (one.others d ne)));
+  tells = one.tells;
+  counts = one.counts;
   net = net_noted n net inner;
 }
 
--- a note that changes no progress
+-- a note that changes no progress, and nothing of what is to be told
 pub notes_none : (c : ℕ) (n : NoteValue) (hub : HubState) → ((d : ℕ) → d ≢ c → is_of d n ≡ false) → (is_of c n ≡ true → may_come (progress_at hub c).phase n ≡ true)
-    → progress_by n (progress_at hub c) ≡ progress_at hub c → NotesOne c n hub hub
-notes_none c n hub others may same = record {
+    → progress_by n (progress_at hub c) ≡ progress_at hub c → ((d : ℕ) (t : Tell) → tell_by d n t ≡ t) → NotesOne c n hub hub
+notes_none c n hub others may same untold = record {
   others = others;
   may = may;
   here = by_cases (is_of c n) (λ own. sym (after_own c n (progress_at hub c) own ∙ same)) (λ other. sym (after_other c n (progress_at hub c) other));
   elsewhere = λ d ne. refl;
+  tells = λ e d. sym (untold d (tell_at hub d));
+  counts = λ e. same_counts hub;
 }
 
 -- ---- a connection that goes on to another phase
 
-progress_of : (table : TableState) (c : ℕ) (phase : Phase) (due : Option (ℕ × List ℕ)) → (entry_of table.entries c).phase ≡ phase → due_of table.partings c ≡ due
-    → progress_at (hub_of table) c ≡ record { phase = unless_gone (Some phase); due = due }
-progress_of table c phase due e h = cc
+pub enters_held : {c : ℕ} {n : NoteValue} {phase : Phase} {a b : HubState} → Enters c n phase a b → held_at b c ≡ held_at a c
+enters_held {c} {n} {phase} {a} {b} e =
+    ap (λ (z : Entry). record { numbered = z.numbered; ring = z.ring; cork = cork_at b c; pending = pending_at b c }) e.entry
+    ∙ ap (λ (z : List ℕ). record { numbered = (entry_at a c).numbered; ring = (entry_at a c).ring; cork = z; pending = pending_at b c }) e.cork
+    ∙ ap (λ (z : List (List ℕ)). record { numbered = (entry_at a c).numbered; ring = (entry_at a c).ring; cork = cork_at a c; pending = z }) e.pending
 
-pub same_progress : (a b : TableState) (d : ℕ) → entry_of b.entries d ≡ entry_of a.entries d → due_of b.partings d ≡ due_of a.partings d → progress_at (hub_of b) d ≡ progress_at (hub_of a) d
-same_progress a b d e h = cc
+-- who is there was there, with the same counts
+pub counts_changed : (c : ℕ) (a b : HubState) → ChangesHub c a b → (is_present b c ≡ true → (is_present a c ≡ true) × (counts_at b c ≡ counts_at a c)) → SameCounts a b
+counts_changed c a b change here d there = same_or_not c d
+    (λ e. subst (λ (z : ℕ). (is_present a z ≡ true) × (counts_at b z ≡ counts_at a z)) (sym e) (here (subst (λ (z : ℕ). is_present b z ≡ true) e there)))
+    (λ ne. (sym (change_present change d ne) ∙ there, ap (λ (z : Entry). count_of z.quiet) (change.table.entries d ne)))
 
-pub notes_entered : (c : ℕ) (n : NoteValue) (a b : TableState) (from to : Phase) (due : Option (ℕ × List ℕ)) → ChangesOne c a b → ((d : ℕ) → d ≢ c → is_of d n ≡ false) → is_of c n ≡ true
-    → (entry_of a.entries c).phase ≡ from → (entry_of b.entries c).phase ≡ to → due_of b.partings c ≡ due
-    → may_come (unless_gone (Some from)) n ≡ true
-    → record { phase = unless_gone (Some to); due = due } ≡ progress_by n (record { phase = unless_gone (Some from); due = due_of a.partings c })
-    → NotesOne c n (hub_of a) (hub_of b)
-notes_entered c n a b from to due one others own was is due_is may step = record {
+enters_counts : {c : ℕ} {n : NoteValue} {phase : Phase} {a b : HubState} → Enters c n phase a b → is_gone phase ≡ is_gone (entry_at a c).phase → SameCounts a b
+enters_counts {c} {n} {phase} {a} {b} e gone = counts_changed c a b e.change
+    (λ there. (ap not (sym gone) ∙ ap (λ (z : Entry). not (is_gone z.phase)) (sym e.entry) ∙ there, ap (λ (z : Entry). count_of z.quiet) e.entry))
+
+pub notes_entered : {c : ℕ} {n : NoteValue} {phase : Phase} {a b : HubState} → Enters c n phase a b → ((d : ℕ) → d ≢ c → is_of d n ≡ false) → is_of c n ≡ true → may_come (progress_at a c).phase n ≡ true
+    → ((d : ℕ) → d ≢ c → (t : Tell) → tell_by d n t ≡ t) → is_gone phase ≡ is_gone (entry_at a c).phase → NotesOne c n a b
+notes_entered {c} {n} {phase} {a} {b} e others own may untold gone = record {
   others = others;
-  may = λ e. ap (λ (z : Progress). may_come z.phase n) (progress_of a c from (due_of a.partings c) was refl) ∙ may;
-  here = progress_of b c to due is due_is ∙ step ∙ ap (progress_by n) (sym (progress_of a c from (due_of a.partings c) was refl)) ∙ sym (after_own c n (progress_at (hub_of a) c) own);
-  elsewhere = λ d ne. same_progress a b d (one.entries d ne) (one.due d ne);
+  may = λ _. may;
+  here = e.progress ∙ sym (after_own c n (progress_at a c) own);
+  elsewhere = λ d ne. change_progress e.change d ne;
+  tells = λ _ d. same_or_not c d
+      (λ q. subst (λ (z : ℕ). tell_at b z ≡ tell_by z n (tell_at a z)) (sym q) e.tells)
+      (λ ne. e.change.tells d ne ∙ sym (untold d ne (tell_at a d)));
+  counts = λ _. enters_counts e gone;
 }
 
 -- ---- what it appends: nothing
 
 -- what lines stand on is as it was for this connection
-pub record Still (a b : TableState) (d : ℕ) : Type 0 where
-  pub numbered : (entry_of b.entries d).numbered ≡ (entry_of a.entries d).numbered
-  pub ring : (entry_of b.entries d).ring ≡ (entry_of a.entries d).ring
-  pub gone : is_gone (entry_of b.entries d).phase ≡ is_gone (entry_of a.entries d).phase
+pub record Still (a b : HubState) (d : ℕ) : Type 0 where
+  pub held : held_at b d ≡ held_at a d
+  pub gone : is_gone (entry_at b d).phase ≡ is_gone (entry_at a d).phase
 
-pub still_of : (a b : TableState) (d : ℕ) → entry_of b.entries d ≡ entry_of a.entries d → Still a b d
-still_of a b d e = record { numbered = ap (λ (z : Entry). z.numbered) e; ring = ap (λ (z : Entry). z.ring) e; gone = ap (λ (z : Entry). is_gone z.phase) e }
+pub still_same : (a : HubState) (d : ℕ) → Still a a d
+still_same a d = record { held = refl; gone = refl }
 
-held_still : (a b : TableState) (d : ℕ) → Still a b d → held_at (hub_of b) d ≡ held_at (hub_of a) d
-held_still a b d s = let n = s.numbered in let r = s.ring in cc
+held_same : (a b : HubState) (d : ℕ) → entry_at b d ≡ entry_at a d → cork_at b d ≡ cork_at a d → pending_at b d ≡ pending_at a d → held_at b d ≡ held_at a d
+held_same a b d e k p = cc
+
+pub still_of : (c : ℕ) (a b : HubState) → ChangesHub c a b → (d : ℕ) → d ≢ c → Still a b d
+still_of c a b change d ne = record { held = held_same a b d (change.table.entries d ne) (change.cork d ne) (change.pending d ne); gone = ap (λ (z : Entry). is_gone z.phase) (change.table.entries d ne) }
 
 pub drops_silent : (c : ℕ) (t t' : Option (List NoteValue)) (n : NoteValue) → IsNoted t n t' → is_silent c n ≡ true → SameDrops c t t'
 drops_silent c t t' n told silent old new eo en index =
@@ -174,15 +196,15 @@ drops_silent c t t' n told silent old new eo en index =
     ap (λ (z : List NoteValue). is_dropped c z index) q.2 ∙ is_dropped_more c q.0 n index ∙ ap (λ (z : Bool). is_dropped c q.0 index || z) (silent_drops c index n silent)
     ∙ sym (or_false (is_dropped c q.0 index)) ∙ ap (λ (z : List NoteValue). is_dropped c z index) same
 
-pub line_noted : (a b : TableState) (net : NetState) (t t' : Option (List NoteValue)) (n : NoteValue) (d : ℕ) → b.config ≡ a.config → IsNoted t n t' → is_silent d n ≡ true → Still a b d
-    → KeepsLine d [] (server_of a net t) (server_of b net t')
-line_noted a b net t t' n d config told silent still = line_still d (server_of a net t) (server_of b net t')
-    (λ there. ap not (sym still.gone) ∙ there) (held_still a b d still) (ap (λ z. z.limit) config)
-    (λ items s. stands_silent d (held_at (hub_of a) d) (taken_of net d) (taken_of net d) t t' n items refl told silent s)
-    (λ items f. fair_silent d a.config.limit (held_at (hub_of a) d) (taken_of net d) (taken_of net d) t t' n items refl told silent f)
+pub line_noted : (a b : HubState) (net : NetState) (t t' : Option (List NoteValue)) (n : NoteValue) (d : ℕ) → b.config ≡ a.config → IsNoted t n t' → is_silent d n ≡ true → Still a b d
+    → KeepsLine d [] (server a net t) (server b net t')
+line_noted a b net t t' n d config told silent still = line_still d (server a net t) (server b net t')
+    (λ there. ap not (sym still.gone) ∙ there) still.held (ap (λ z. z.limit) config)
+    (λ items s. stands_silent d (held_at a d) (taken_of net d) (taken_of net d) t t' n items refl told silent s)
+    (λ items f. fair_silent d a.config.limit (held_at a d) (taken_of net d) (taken_of net d) t t' n items refl told silent f)
 
-zero_more : (n m : ℕ) → n ≡ m → n + 0 ≡ (m + 0) + 0
-zero_more n m e = omega arith
+zero_more : (n : ℕ) → n ≡ n + 0
+zero_more n = omega arith
 
 pub falsely : (b : Bool) → not b ≡ true → b ≡ false
 falsely true e = sym e
@@ -192,38 +214,44 @@ pub truly : (b : Bool) → not b ≡ false → b ≡ true
 truly true e = refl
 truly false e = sym e
 
-pub front_noted : (a b : TableState) (net : NetState) (t t' : Option (List NoteValue)) (n : NoteValue) (d : ℕ) → IsNoted t n t' → is_silent d n ≡ true → Still a b d
-    → KeepsFront d [] (server_of a net t) (server_of b net t')
+pub items_still : (a b : HubState) (d : ℕ) → Still a b d → items_at b d ≡ items_at a d + 0
+items_still a b d still = ap (λ (z : Held). z.numbered + length z.pending) still.held ∙ zero_more (items_at a d)
+
+pub front_noted : (a b : HubState) (net : NetState) (t t' : Option (List NoteValue)) (n : NoteValue) (d : ℕ) → IsNoted t n t' → is_silent d n ≡ true → Still a b d
+    → KeepsFront d [] (server a net t) (server b net t')
 front_noted a b net t t' n d told silent still = record {
   tells = refl;
   told = λ notes e. let q = split_told t t' n notes told e in (q.0, q.1);
-  count = λ there few. zero_more (entry_of b.entries d).numbered (entry_of a.entries d).numbered still.numbered;
-  front = λ there away few items stands. clash (is_gone (entry_of b.entries d).phase) (still.gone ∙ falsely (is_gone (entry_of a.entries d).phase) there) (truly (is_gone (entry_of b.entries d).phase) away);
+  count = λ there few. items_still a b d still;
+  front = λ there away few items stands. clash (is_gone (entry_at b d).phase) (still.gone ∙ falsely (is_gone (entry_at a d).phase) there) (truly (is_gone (entry_at b d).phase) away);
   taken = λ away. refl;
   drops = λ away. drops_silent d t t' n told silent;
 }
 
 -- what it may leave of a connection: what lines stand on, or a new connection with nothing in its ring
-abbrev pub StillOrNew : TableState → TableState → ℕ → Type 0
-StillOrNew a b d = Still a b d ⊎ ((a.named < d) × ((entry_of b.entries d).ring ≡ []))
+abbrev pub StillOrNew : HubState → HubState → ℕ → Type 0
+StillOrNew a b d = Still a b d ⊎ ((a.named < d) × (ring_at b d ≡ []))
 
-old_still : (a b : TableState) (d : ℕ) → d ≤ a.named → StillOrNew a b d → Still a b d
+old_still : (a b : HubState) (d : ℕ) → d ≤ a.named → StillOrNew a b d → Still a b d
 old_still a b d below (inl s) = s
 old_still a b d below (inr new) = absurd (let h = new.0 in omega arith)
 
-short_at : (a b : TableState) (net : NetState) (t t' : Option (List NoteValue)) (n : NoteValue) (d : ℕ) → IsNoted t n t' → is_silent d n ≡ true
-    → (is_present (hub_of a) d ≡ true → ShortWhereHeld d (entry_of a.entries d).ring t) → is_present (hub_of b) d ≡ true → StillOrNew a b d → ShortWhereHeld d (entry_of b.entries d).ring t'
+ring_still : (a b : HubState) (d : ℕ) → Still a b d → ring_at b d ≡ ring_at a d
+ring_still a b d still = ap (λ (z : Held). z.ring) still.held
+
+short_at : (a b : HubState) (net : NetState) (t t' : Option (List NoteValue)) (n : NoteValue) (d : ℕ) → IsNoted t n t' → is_silent d n ≡ true
+    → (is_present a d ≡ true → ShortWhereHeld d (ring_at a d) t) → is_present b d ≡ true → StillOrNew a b d → ShortWhereHeld d (ring_at b d) t'
 short_at a b net t t' n d told silent s there (inl still) =
-    subst (λ (z : List ℕ). ShortWhereHeld d z t') (sym still.ring) (short_silent d (entry_of a.entries d).ring t t' n told silent (s (ap not (sym still.gone) ∙ there)))
+    subst (λ (z : List ℕ). ShortWhereHeld d z t') (sym (ring_still a b d still)) (short_silent d (ring_at a d) t t' n told silent (s (ap not (sym still.gone) ∙ there)))
 short_at a b net t t' n d told silent s there (inr new) = λ some notes e. absurd (some new.1)
 
-waits_at : (a b : TableState) (net : NetState) (d : ℕ) → (is_present (hub_of a) d ≡ true → (entry_of a.entries d).ring ≢ [] → net.writable d ≡ false) → is_present (hub_of b) d ≡ true
-    → StillOrNew a b d → (entry_of b.entries d).ring ≢ [] → net.writable d ≡ false
-waits_at a b net d w there (inl still) some = w (ap not (sym still.gone) ∙ there) (λ none. some (still.ring ∙ none))
+waits_at : (a b : HubState) (net : NetState) (d : ℕ) → (is_present a d ≡ true → ring_at a d ≢ [] → net.writable d ≡ false) → is_present b d ≡ true
+    → StillOrNew a b d → ring_at b d ≢ [] → net.writable d ≡ false
+waits_at a b net d w there (inl still) some = w (ap not (sym still.gone) ∙ there) (λ none. some (ring_still a b d still ∙ none))
 waits_at a b net d w there (inr new) some = absurd (some new.1)
 
-pub appends_noted : (a b : TableState) (net : NetState) (t t' : Option (List NoteValue)) (n : NoteValue) → b.config ≡ a.config → a.named ≤ b.named → IsNoted t n t' → ((d : ℕ) → is_silent d n ≡ true)
-    → ((d : ℕ) → StillOrNew a b d) → Appends nothing (server_of a net t) (server_of b net t')
+pub appends_noted : (a b : HubState) (net : NetState) (t t' : Option (List NoteValue)) (n : NoteValue) → b.config ≡ a.config → a.named ≤ b.named → IsNoted t n t' → ((d : ℕ) → is_silent d n ≡ true)
+    → ((d : ℕ) → StillOrNew a b d) → Appends nothing (server a net t) (server b net t')
 appends_noted a b net t t' n config named told silent still = record {
   lines = record {
     config = config;
@@ -236,11 +264,45 @@ appends_noted a b net t t' n config named told silent still = record {
 }
 
 -- one connection goes on to another phase and is not gone
-pub still_entered : (c : ℕ) (a b : TableState) → ChangesOne c a b → (entry_of b.entries c).numbered ≡ (entry_of a.entries c).numbered → (entry_of b.entries c).ring ≡ (entry_of a.entries c).ring
-    → is_gone (entry_of b.entries c).phase ≡ is_gone (entry_of a.entries c).phase → (d : ℕ) → StillOrNew a b d
-still_entered c a b one numbered ring gone d = same_or_not c d
-    (λ e. subst (λ (z : ℕ). StillOrNew a b z) (sym e) (inl (record { numbered = numbered; ring = ring; gone = gone })))
-    (λ ne. inl (still_of a b d (one.entries d ne)))
+pub still_entered : {c : ℕ} {n : NoteValue} {phase : Phase} {a b : HubState} → Enters c n phase a b → is_gone phase ≡ is_gone (entry_at a c).phase → (d : ℕ) → Still a b d
+still_entered {c} {n} {phase} {a} {b} e gone d = same_or_not c d
+    (λ q. subst (λ (z : ℕ). Still a b z) (sym q) (record { held = enters_held e; gone = ap (λ (z : Entry). is_gone z.phase) e.entry ∙ gone }))
+    (λ ne. still_of c a b e.change d ne)
 
-pub still_same : (a : TableState) (d : ℕ) → StillOrNew a a d
-still_same a d = inl (still_of a a d refl)
+-- ---- a step that is a note of one connection
+
+-- the note is made, and nothing is appended
+pub record Notices (c : ℕ) (n : NoteValue) (a b : Server) : Type 0 where
+  pub advances : Advances (n ∷ []) a b
+  pub fails : FailsAfter (n ∷ []) a.net b.net
+  pub appends : Appends nothing a b
+  pub lines : SameLinesElsewhere c a b
+  pub ties : Ties a → Ties b
+  pub named : b.hub.named ≡ a.hub.named
+
+ties_still : (a b : HubState) (net : NetState) (t t' : Option (List NoteValue)) → ((d : ℕ) → Still a b d) → Ties (server a net t) → Ties (server b net t')
+ties_still a b net t t' still ties d there = ties d (ap not (sym (still d).gone) ∙ there)
+
+-- a hub that stays as it is
+pub notices_none : (c : ℕ) (n : NoteValue) (hub : HubState) (net : NetState) (t t' : Option (List NoteValue)) → IsNoted t n t' → is_inner n ≡ true → ((d : ℕ) → is_silent d n ≡ true) → NotesOne c n hub hub
+    → Notices c n (server hub net t) (server hub net t')
+notices_none c n hub net t t' told inner silent one = record {
+  advances = advances_noted c n hub hub net t t' told inner one;
+  fails = fails_noted n net inner;
+  appends = appends_noted hub hub net t t' n refl (omega arith) told silent (λ d. inl (still_same hub d));
+  lines = record { tells = refl; present = λ d ne there. there; phase = λ d ne there. refl; pairs = λ d ne there topic. refl; pending = λ d ne there. refl; octets = λ d ne there tells. refl };
+  ties = λ ties. ties;
+  named = refl;
+}
+
+-- one in which the connection goes on to another phase
+pub notices_entered : {c : ℕ} {n : NoteValue} {phase : Phase} {a b : HubState} → Enters c n phase a b → (net : NetState) (t t' : Option (List NoteValue)) → IsNoted t n t' → is_inner n ≡ true → ((d : ℕ) → is_silent d n ≡ true)
+    → NotesOne c n a b → is_gone phase ≡ is_gone (entry_at a c).phase → Notices c n (server a net t) (server b net t')
+notices_entered {c} {n} {phase} {a} {b} e net t t' told inner silent one gone = record {
+  advances = advances_noted c n a b net t t' told inner one;
+  fails = fails_noted n net inner;
+  appends = appends_noted a b net t t' n e.change.table.config (let h = change_named e.change in omega arith) told silent (λ d. inl (still_entered e gone d));
+  lines = lines_elsewhere c (server a net t) (server b net t') e.change refl (λ d ne tells. refl);
+  ties = ties_still a b net t t' (still_entered e gone);
+  named = e.change.table.named;
+}

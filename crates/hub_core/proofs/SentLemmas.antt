@@ -1,5 +1,5 @@
 -- Notes of what became of one connection's octets: they leave each connection as far as it is, and say nothing of others.
-use Rattle.std.proofs.Common.{◌≡◌, ◌≢◌, ℕ, List, [], ◌∷◌, ◌++◌, Option, Some, None, Bool, true, false, cond, suc, nat_eq, ◌&&◌, ◌||◌, refl, sym, ap, ◌∙◌, subst, arith, ⊎_elim}
+use Rattle.std.proofs.Common.{zero, length, ◌≡◌, ◌≢◌, ℕ, List, [], ◌∷◌, ◌++◌, Option, Some, None, Bool, true, false, cond, suc, nat_eq, ◌&&◌, ◌||◌, refl, sym, ap, ◌∙◌, subst, arith, ⊎_elim}
 use Rattle.std.proofs.lemmas.Bool.{cases_eq}
 use Rattle.std.proofs.lemmas.Bool.Decides.{nat_tests}
 use Rattle.std.specs.List.{list_all, list_any}
@@ -8,13 +8,20 @@ use Rattle.ws_kinds.specs.declared.note.Phase.{Phase}
 use Rattle.ws_kinds.specs.declared.note.Phase.TheVariants.{Head, Open, Leaving, Ending, Gone}
 use Rattle.ws_kinds.specs.NoteValue as note
 use Rattle.ws_kinds.specs.NoteValue.{NoteValue}
-use Rattle.run_meaning.specs.Counts.{gather, total, number_of, took_by, taken_by, writes, taken, is_gone_in, is_gone_by_in}
-use Rattle.run_meaning.specs.Notes.{is_of, is_gone, is_gone_by}
-use Rattle.run_meaning.specs.Lines.{moved, leaves_open, cause_of}
+use Rattle.run_meaning.specs.Counts.{gather, total, number_of, took_by, taken_by, dropped_by, writes, taken, drops as dropped_of, is_gone_in, is_gone_by_in}
+use Rattle.run_meaning.specs.Tell.{Tell, one_dropped, tell_by, tell_by_all}
+use Rattle.socket_core.specs.Puts.{drops_in}
+use Rattle.socket_core.specs.declared.socket.Kept.{Kept}
+use Rattle.socket_core.specs.declared.socket.Kept.TheVariants.{Clear, Backlog, Dropped, Failed}
+use Rattle.hub_core.specs.Changes.{tell_after}
+use Rattle.run_meaning.specs.Notes.{is_of, is_gone, is_gone_by, is_sending}
+use Rattle.run_meaning.specs.Lines.{moved, leaves_open, topics_left, cause_of}
 use Rattle.hub_lines.specs.Told.{is_dropped, drops, short_from, short_after, fell_short, is_silent, ShortWhereHeld}
 use Rattle.hub_lines.proofs.StepLemmas.{silent_drops, silent_short}
-use Rattle.hub_notes.specs.Noted.{AreNoted, is_sending, is_outgoing, is_link_failure}
-use Rattle.hub_notes.specs.Progress.{Progress, unless_gone, progress_by, progress_after, progress_after_all, may_come, may_all_come}
+use Rattle.ws_kinds.specs.Watch.{AreNoted}
+use Rattle.run_meaning.specs.Performs.{is_outgoing, is_link_failure}
+use Rattle.hub_notes.specs.Progress.{Progress, progress_by, progress_after, progress_after_all, may_come, may_all_come}
+use Rattle.run_meaning.specs.Orders.{unless_gone}
 use Rattle.hub_notes.proofs.BoolLemmas.{clash, and_left, and_right}
 
 -- ---- what holds of each note
@@ -137,8 +144,8 @@ sent_taken c x ns ne e = ap total (nothing_of (is_sending c) (taken_by x) (one_t
 
 -- ---- how far a connection is
 
-abbrev pub progress_with : Option Phase → Option (ℕ × List ℕ) → Progress
-progress_with phase due = record { phase = phase; due = due }
+abbrev pub progress_with : Option Phase → List (List ℕ) → Option (ℕ × List ℕ) → Progress
+progress_with phase topics due = record { phase = phase; topics = topics; due = due }
 
 abbrev due_with : Option Phase → Option Phase → NoteValue → Option (ℕ × List ℕ) → Option (ℕ × List ℕ)
 due_with from to n due = cond (leaves_open from to) (Some (cause_of n)) due
@@ -151,18 +158,18 @@ never_leaves (Some Leaving) = refl
 never_leaves (Some Ending) = refl
 never_leaves (Some Gone) = refl
 
-one_by : (n : NoteValue) (phase : Option Phase) (due : Option (ℕ × List ℕ)) → moved phase n ≡ phase → unless_gone phase ≡ phase → progress_by n (progress_with phase due) ≡ progress_with phase due
-one_by n phase due e there =
-    ap (λ (z : Option Phase). progress_with (unless_gone z) (due_with phase z n due)) e
-    ∙ ap (λ (z : Option Phase). progress_with z (due_with phase phase n due)) there
-    ∙ ap (λ (z : Bool). progress_with phase (cond z (Some (cause_of n)) due)) (never_leaves phase)
+one_by : (n : NoteValue) (phase : Option Phase) (topics : List (List ℕ)) (due : Option (ℕ × List ℕ)) → moved phase n ≡ phase → unless_gone phase ≡ phase → progress_by n (progress_with phase topics due) ≡ progress_with phase topics due
+one_by n phase topics due e there =
+    ap (λ (z : Option Phase). progress_with (unless_gone z) (topics_left phase z topics) (due_with phase z n due)) e
+    ∙ ap (λ (z : Option Phase). progress_with z (topics_left phase phase topics) (due_with phase phase n due)) there
+    ∙ ap (λ (z : Bool). progress_with phase (cond z [] topics) (cond z (Some (cause_of n)) due)) (never_leaves phase)
 
 same_either : (b : Bool) (p q : Progress) → q ≡ p → cond b q p ≡ p
 same_either true p q e = e
 same_either false p q e = refl
 
 one_still : (c x : ℕ) (n : NoteValue) (p : Progress) → is_sending c n ≡ true → unless_gone p.phase ≡ p.phase → progress_after x n p ≡ p
-one_still c x n p e there = same_either (is_of x n) p (progress_by n p) (one_by n p.phase p.due (one_moved c n p.phase e) there)
+one_still c x n p e there = same_either (is_of x n) p (progress_by n p) (one_by n p.phase p.topics p.due (one_moved c n p.phase e) there)
 
 pub sent_progress : (c x : ℕ) (ns : List NoteValue) (p : Progress) → list_all (is_sending c) ns ≡ true → unless_gone p.phase ≡ p.phase → progress_after_all x ns p ≡ p
 sent_progress c x [] p e there = refl
@@ -243,3 +250,45 @@ gone_by_after c x left [] more e = refl
 gone_by_after c x left (n ∷ ns) more e =
     ap (λ (z : Bool). z || is_gone_by_in x left (ns ++ more)) (one_gone_by c x left n (and_left (is_sending c n) (list_all (is_sending c) ns) e))
     ∙ gone_by_after c x left ns more (and_right (is_sending c n) (list_all (is_sending c) ns) e)
+
+-- ---- what is to be told
+
+abbrev times : ℕ → Tell → Tell
+times zero t = t
+times (suc n) t = times n (one_dropped t)
+
+times_both : (xs ys : List ℕ) (t : Tell) → times (length (xs ++ ys)) t ≡ times (length ys) (times (length xs) t)
+times_both [] ys t = refl
+times_both (x ∷ xs) ys t = times_both xs ys (one_dropped t)
+
+one_tell : (c : ℕ) (n : NoteValue) (t : Tell) → is_sending c n ≡ true → tell_by c n t ≡ times (length (dropped_by c n)) t
+one_tell c (note.took d o m) t e = refl
+one_tell c (note.dropped d i h) t e = ap (λ (z : Bool). cond z (one_dropped t) t) e ∙ sym (ap (λ (z : Bool). times (length (cond z (i ∷ []) [])) t) e)
+one_tell c _ t e = clash false refl e
+
+all_tell : (c : ℕ) (ns : List NoteValue) (t : Tell) → list_all (is_sending c) ns ≡ true → tell_by_all c ns t ≡ times (length (dropped_of c ns)) t
+all_tell c [] t e = refl
+all_tell c (n ∷ ns) t e =
+    ap (tell_by_all c ns) (one_tell c n t (and_left (is_sending c n) (list_all (is_sending c) ns) e))
+    ∙ all_tell c ns (times (length (dropped_by c n)) t) (and_right (is_sending c n) (list_all (is_sending c) ns) e)
+    ∙ sym (times_both (dropped_by c n) (dropped_of c ns) t)
+
+times_as : (kept : Kept) (t : Tell) → times (drops_in kept) t ≡ tell_after kept t
+times_as Clear t = refl
+times_as (Backlog held) t = refl
+times_as (Dropped held) t = refl
+times_as Failed t = refl
+
+-- an item is dropped exactly where the answer says so
+pub sent_tells : (c : ℕ) (kept : Kept) (ns : List NoteValue) (t : Tell) → list_all (is_sending c) ns ≡ true → length (dropped_of c ns) ≡ drops_in kept → tell_by_all c ns t ≡ tell_after kept t
+sent_tells c kept ns t e count = all_tell c ns t e ∙ ap (λ (z : ℕ). times z t) count ∙ times_as kept t
+
+one_untold : (c x : ℕ) (n : NoteValue) (t : Tell) → x ≢ c → is_sending c n ≡ true → tell_by x n t ≡ t
+one_untold c x (note.took d o m) t ne e = refl
+one_untold c x (note.dropped d i h) t ne e = ap (λ (z : Bool). cond z (one_dropped t) t) (other_number c d x e ne)
+one_untold c x _ t ne e = clash false refl e
+
+pub sent_untold : (c x : ℕ) (ns : List NoteValue) (t : Tell) → x ≢ c → list_all (is_sending c) ns ≡ true → tell_by_all x ns t ≡ t
+sent_untold c x [] t ne e = refl
+sent_untold c x (n ∷ ns) t ne e =
+    ap (tell_by_all x ns) (one_untold c x n t ne (and_left (is_sending c n) (list_all (is_sending c) ns) e)) ∙ sent_untold c x ns t ne (and_right (is_sending c n) (list_all (is_sending c) ns) e)

@@ -1,21 +1,24 @@
--- Tables of which one connection changes, with what the net and the watch tell of the others.
-use Rattle.std.proofs.Common.{◌≡◌, ◌≢◌, ◌+◌, ℕ, List, [], ◌∷◌, ◌++◌, Option, Some, None, Bool, true, false, cond, nat_eq, not, is_some, ◌||◌, refl, sym, ap, ◌∙◌, arith}
-use Rattle.std.specs.List.{list_all}
+-- Hubs of which one connection changes, with what the net and the watch tell of the others.
+use Rattle.std.proofs.Common.{◌≡◌, ◌≢◌, ◌≤◌, ◌+◌, ℕ, List, [], ◌∷◌, ◌++◌, Option, Some, None, Bool, true, false, cond, nat_eq, bytes_eq, not, is_some, ◌&&◌, ◌||◌, length, refl, sym, ap, ◌∙◌, arith}
+use Rattle.std.specs.List.{list_all, list_any}
 use Rattle.ws_kinds.specs.declared.note.Phase.{Phase}
 use Rattle.ws_kinds.specs.declared.note.Phase.TheVariants.{Head, Open, Leaving, Ending, Gone}
 use Rattle.ws_kinds.specs.NoteValue.{NoteValue}
 use Rattle.link_trait.specs.NetState.{NetState}
 use Rattle.hub_lines.specs.Told.{taken_of, is_dropped, is_silent}
-use Rattle.hub_lines.specs.State.{Entry, entry_of, has_entry, is_gone, is_present, phase_at}
+use Rattle.hub_lines.specs.State.{HubState, Entry, Server, entry_at, entry_of, has_entry, is_gone, is_present, phase_at, ring_at, cork_at, pending_at, has_pair}
 use Rattle.hub_lines.specs.Moves.{Others}
 use Rattle.hub_lines.specs.Calls.{Beside, SameElsewhere, SameLinesElsewhere}
+use Rattle.hub_lines.proofs.EntryLemmas.{present_entry}
 use Rattle.hub_lines.proofs.LineLemmas.{beside_of}
-use Rattle.hub_notes.specs.Noted.{AreNoted}
+use Rattle.ws_kinds.specs.Watch.{AreNoted}
 use Rattle.hub_notes.specs.Fronts.{SameDrops, KeepsFront, items_at}
-use Rattle.hub_notes.specs.Progress.{Progress, unless_gone, progress_at, due_of}
-use Rattle.hub_table.specs.Table.{TableState, IsTable, ChangesOne}
+use Rattle.hub_notes.specs.Progress.{Progress, progress_at, due_of, due_at, topics_of, topics_at}
+use Rattle.run_meaning.specs.Orders.{unless_gone}
+use Rattle.hub_notes.specs.Table.{TableState, IsTable, ChangesOne}
 use Rattle.hub_notes.proofs.BoolLemmas.{by_cases, clash}
-use Rattle.hub_core.specs.State.{hub_of, server_of}
+use Rattle.hub_core.specs.Changes.{ChangesHub}
+use Rattle.hub_core.specs.State.{hub_of}
 use Rattle.hub_core.proofs.SentLemmas.{silent_dropped, split_notes}
 
 -- ---- phases
@@ -40,33 +43,24 @@ is_away b e = ap (λ (z : Bool). not z) e
 pub is_there : (b : Bool) → b ≡ false → not b ≡ true
 is_there b e = ap (λ (z : Bool). not z) e
 
-abbrev pub progress_of : Phase → Option (ℕ × List ℕ) → Progress
-progress_of phase due = record { phase = unless_gone (Some phase); due = due }
+abbrev pub progress_of : Phase → List (List ℕ) → Option (ℕ × List ℕ) → Progress
+progress_of phase topics due = record { phase = unless_gone (Some phase); topics = topics; due = due }
 
-pub progress_same : (a b : TableState) (x : ℕ) → (entry_of b.entries x).phase ≡ (entry_of a.entries x).phase → due_of b.partings x ≡ due_of a.partings x
-    → progress_at (hub_of b) x ≡ progress_at (hub_of a) x
-progress_same a b x phase due =
-    ap (λ (z : Phase). progress_of z (due_of b.partings x)) phase ∙ ap (λ (z : Option (ℕ × List ℕ)). progress_of (entry_of a.entries x).phase z) due
+pub progress_same : (a b : HubState) (x : ℕ) → (entry_at b x).phase ≡ (entry_at a x).phase → topics_at b x ≡ topics_at a x → due_at b x ≡ due_at a x → progress_at b x ≡ progress_at a x
+progress_same a b x phase topics due =
+    ap (λ (z : Phase). progress_of z (topics_at b x) (due_at b x)) phase ∙ ap (λ (z : List (List ℕ)). progress_of (entry_at a x).phase z (due_at b x)) topics
+    ∙ ap (λ (z : Option (ℕ × List ℕ)). progress_of (entry_at a x).phase (topics_at a x) z) due
 
 -- ---- entries
 
--- a connection that is not gone is an entry
-pub there_is_entry : (entries : List Entry) (x : ℕ) → not (is_gone (entry_of entries x).phase) ≡ true → has_entry entries x ≡ true
-there_is_entry [] x e = e
-there_is_entry (first ∷ rest) x e = by_cases (nat_eq first.conn x)
-    (λ here. ap (λ (z : Bool). z || has_entry rest x) here)
-    (λ later. ap (λ (z : Bool). z || has_entry rest x) later
-    ∙ there_is_entry rest x (sym (ap (λ (z : Bool). not (is_gone (cond z first (entry_of rest x)).phase)) later) ∙ e))
-
-pub present_same : (a b : TableState) (x : ℕ) → (entry_of b.entries x).phase ≡ (entry_of a.entries x).phase → is_present (hub_of b) x ≡ is_present (hub_of a) x
+pub present_same : (a b : HubState) (x : ℕ) → (entry_at b x).phase ≡ (entry_at a x).phase → is_present b x ≡ is_present a x
 present_same a b x phase = ap (λ (z : Phase). not (is_gone z)) phase
 
 abbrev phase_by : Bool → Phase → Option Phase
 phase_by has phase = cond has (Some phase) None
 
-pub phase_same : (a b : TableState) (x : ℕ) → has_entry b.entries x ≡ has_entry a.entries x → entry_of b.entries x ≡ entry_of a.entries x → phase_at (hub_of b) x ≡ phase_at (hub_of a) x
-phase_same a b x has entry =
-    ap (λ (z : Bool). phase_by z (entry_of b.entries x).phase) has ∙ ap (λ (z : Entry). phase_by (has_entry a.entries x) z.phase) entry
+pub phase_same : (a b : HubState) (x : ℕ) → has_entry b.entries x ≡ has_entry a.entries x → entry_at b x ≡ entry_at a x → phase_at b x ≡ phase_at a x
+phase_same a b x has entry = ap (λ (z : Bool). phase_by z (entry_at b x).phase) has ∙ ap (λ (z : Entry). phase_by (has_entry a.entries x) z.phase) entry
 
 -- an entry is there, or is not, as the table says
 pub entry_kept : (c : ℕ) (a b : TableState) → ChangesOne c a b → IsTable a → IsTable b → (x : ℕ) → x ≢ c → has_entry b.entries x ≡ has_entry a.entries x
@@ -79,41 +73,76 @@ entry_kept c a b change was is x ne =
     is_kept_by : Phase → Option (ℕ × List ℕ) → Bool
     is_kept_by phase due = not (is_gone phase) || is_some due
 
+-- ---- topics
+
+-- who subscribed to what, by each one's topics
+pair_is : (pairs : List (ℕ × List ℕ)) (x : ℕ) (topic : List ℕ) → has_pair pairs x topic ≡ list_any (λ (z : List ℕ). bytes_eq z topic) (topics_of pairs x)
+pair_is [] x topic = refl
+pair_is (first ∷ rest) x topic = by_cases (nat_eq first.0 x)
+    (λ e. ap (λ (z : Bool). (z && bytes_eq first.1 topic) || has_pair rest x topic) e ∙ ap (λ (z : Bool). bytes_eq first.1 topic || z) (pair_is rest x topic)
+    ∙ sym (ap (λ (z : Bool). list_any (λ (y : List ℕ). bytes_eq y topic) (cond z (first.1 ∷ topics_of rest x) (topics_of rest x))) e))
+    (λ e. ap (λ (z : Bool). (z && bytes_eq first.1 topic) || has_pair rest x topic) e ∙ pair_is rest x topic
+    ∙ sym (ap (λ (z : Bool). list_any (λ (y : List ℕ). bytes_eq y topic) (cond z (first.1 ∷ topics_of rest x) (topics_of rest x))) e))
+
+pub pairs_same : (a b : HubState) (x : ℕ) → topics_at b x ≡ topics_at a x → (topic : List ℕ) → has_pair b.pairs x topic ≡ has_pair a.pairs x topic
+pairs_same a b x same topic = pair_is b.pairs x topic ∙ ap (list_any (λ (z : List ℕ). bytes_eq z topic)) same ∙ sym (pair_is a.pairs x topic)
+
 -- ---- what is beside the connection that changes
 
-pub beside_change : (c : ℕ) (a b : TableState) (n0 n1 : NetState) (t0 t1 : Option (List NoteValue)) → ChangesOne c a b → Others c n0 n1 t0 t1 → Beside c (server_of a n0 t0) (server_of b n1 t1)
-beside_change c a b n0 n1 t0 t1 change others =
-    beside_of c (server_of a n0 t0) (server_of b n1 t1) change.config (let e = change.named in omega arith) change.entries (λ x ne. refl) (λ x ne. refl) others
+-- as long as only the table is filled
+pub plain_change : (c : ℕ) (a b : TableState) → ChangesOne c a b → ChangesHub c (hub_of a) (hub_of b)
+plain_change c a b change = record { table = change; cork = λ x ne. refl; pending = λ x ne. refl; topics = λ x ne. refl; tells = λ x ne. refl }
 
-pub elsewhere_same : (c : ℕ) (a b : TableState) → ChangesOne c a b → ((x : ℕ) → x ≢ c → has_entry b.entries x ≡ has_entry a.entries x) → SameElsewhere c (hub_of a) (hub_of b)
-elsewhere_same c a b change has = record {
-  phase = λ x ne. phase_same a b x (has x ne) (change.entries x ne);
-  pairs = λ x ne topic. refl;
-  ring = λ x ne. ap (λ (z : Entry). z.ring) (change.entries x ne);
-  cork = λ x ne. refl;
-  pending = λ x ne. refl;
-}
+module _ {c : ℕ} {a b : HubState} (change : ChangesHub c a b) where
+  pub change_entry : (x : ℕ) → x ≢ c → entry_at b x ≡ entry_at a x
+  change_entry x ne = change.table.entries x ne
+
+  pub change_phase : (x : ℕ) → x ≢ c → (entry_at b x).phase ≡ (entry_at a x).phase
+  change_phase x ne = ap (λ (z : Entry). z.phase) (change.table.entries x ne)
+
+  pub change_present : (x : ℕ) → x ≢ c → is_present b x ≡ is_present a x
+  change_present x ne = present_same a b x (change_phase x ne)
+
+  pub change_progress : (x : ℕ) → x ≢ c → progress_at b x ≡ progress_at a x
+  change_progress x ne = progress_same a b x (change_phase x ne) (change.topics x ne) (change.table.due x ne)
+
+  pub change_named : a.named ≡ b.named
+  change_named = sym change.table.named
+
+  pub change_octets : (x : ℕ) → x ≢ c → ring_at b x ++ cork_at b x ≡ ring_at a x ++ cork_at a x
+  change_octets x ne = ap (λ (z : Entry). z.ring ++ cork_at b x) (change.table.entries x ne) ∙ ap (λ (z : List ℕ). ring_at a x ++ z) (change.cork x ne)
+
+  pub change_elsewhere : ((x : ℕ) → x ≢ c → has_entry b.entries x ≡ has_entry a.entries x) → SameElsewhere c a b
+  change_elsewhere has = record {
+    phase = λ x ne. phase_same a b x (has x ne) (change.table.entries x ne);
+    pairs = λ x ne. pairs_same a b x (change.topics x ne);
+    ring = λ x ne. ap (λ (z : Entry). z.ring) (change.table.entries x ne);
+    cork = change.cork;
+    pending = change.pending;
+  }
 
 has_both : (b c : Bool) → b ≡ true → c ≡ true → c ≡ b
 has_both b c e h = h ∙ sym e
 
-pub lines_elsewhere : (c : ℕ) (a b : TableState) (n0 n1 : NetState) (t0 t1 : Option (List NoteValue)) → ChangesOne c a b → n1.tells ≡ n0.tells
-    → ((x : ℕ) → x ≢ c → n0.tells ≡ true → n1.taken x ≡ n0.taken x) → SameLinesElsewhere c (server_of a n0 t0) (server_of b n1 t1)
-lines_elsewhere c a b n0 n1 t0 t1 change tells taken = record {
+up_to : (n m : ℕ) → n ≡ m → n ≤ m
+up_to n m e = omega arith
+
+pub beside_change : (c : ℕ) (a b : Server) → ChangesHub c a.hub b.hub → Others c a.net b.net a.told b.told → Beside c a b
+beside_change c a b change others =
+    beside_of c a b change.table.config (up_to a.hub.named b.hub.named (change_named change)) change.table.entries change.cork change.pending others
+
+pub lines_elsewhere : (c : ℕ) (a b : Server) → ChangesHub c a.hub b.hub → b.net.tells ≡ a.net.tells → ((x : ℕ) → x ≢ c → a.net.tells ≡ true → b.net.taken x ≡ a.net.taken x) → SameLinesElsewhere c a b
+lines_elsewhere c a b change tells taken = record {
   tells = tells;
-  present = λ x ne there. sym (present_same a b x (phase_of x ne)) ∙ there;
+  present = λ x ne there. sym (change_present change x ne) ∙ there;
   phase = λ x ne there.
-      let was : is_present (hub_of a) x ≡ true = sym (present_same a b x (phase_of x ne)) ∙ there in
-      phase_same a b x (has_both (has_entry a.entries x) (has_entry b.entries x) (there_is_entry a.entries x was) (there_is_entry b.entries x there)) (change.entries x ne);
-  pairs = λ x ne there topic. refl;
-  pending = λ x ne there. refl;
+      let was : is_present a.hub x ≡ true = sym (change_present change x ne) ∙ there in
+      phase_same a.hub b.hub x (has_both (has_entry a.hub.entries x) (has_entry b.hub.entries x) (present_entry a.hub.entries x was) (present_entry b.hub.entries x there)) (change.table.entries x ne);
+  pairs = λ x ne there. pairs_same a.hub b.hub x (change.topics x ne);
+  pending = λ x ne there. change.pending x ne;
   octets = λ x ne there told.
-      ap (λ (z : List ℕ). z ++ ((entry_of b.entries x).ring ++ [])) (taken x ne told)
-      ∙ ap (λ (z : Entry). n0.taken x ++ (z.ring ++ [])) (change.entries x ne);
+      ap (λ (z : List ℕ). z ++ (ring_at b.hub x ++ cork_at b.hub x)) (taken x ne told) ∙ ap (λ (z : List ℕ). a.net.taken x ++ z) (change_octets change x ne);
 }
-  where
-    phase_of : (x : ℕ) → x ≢ c → (entry_of b.entries x).phase ≡ (entry_of a.entries x).phase
-    phase_of x ne = ap (λ (z : Entry). z.phase) (change.entries x ne)
 
 -- ---- fronts
 
@@ -140,13 +169,13 @@ no_more : (m : ℕ) → m ≡ m + 0
 no_more m = omega arith
 
 -- a connection that does not change, and of which nothing is told
-pub front_still : (x : ℕ) (a b : TableState) (n0 n1 : NetState) (t0 t1 : Option (List NoteValue)) (ns : List NoteValue) → entry_of b.entries x ≡ entry_of a.entries x → n1.tells ≡ n0.tells
-    → (n0.tells ≡ true → n1.taken x ≡ n0.taken x) → AreNoted t0 ns t1 → list_all (is_silent x) ns ≡ true → KeepsFront x [] (server_of a n0 t0) (server_of b n1 t1)
-front_still x a b n0 n1 t0 t1 ns entry tells taken told silent = record {
+pub front_still : (c x : ℕ) (a b : Server) (ns : List NoteValue) → x ≢ c → ChangesHub c a.hub b.hub → b.net.tells ≡ a.net.tells → (a.net.tells ≡ true → b.net.taken x ≡ a.net.taken x) → AreNoted a.told ns b.told
+    → list_all (is_silent x) ns ≡ true → KeepsFront x [] a b
+front_still c x a b ns ne change tells taken told silent = record {
   tells = tells;
-  told = told_before t0 t1 ns told;
-  count = λ there few. ap (λ (z : Entry). z.numbered + 0) entry ∙ no_more (items_at (hub_of a) x);
-  front = λ there gone few items stands. clash (is_present (hub_of b) x) gone (present_same a b x (ap (λ (z : Entry). z.phase) entry) ∙ there);
-  taken = λ gone. taken_same x n0 n1 tells taken;
-  drops = λ gone. drops_same x t0 t1 ns told silent;
+  told = told_before a.told b.told ns told;
+  count = λ there few. ap (λ (z : Entry). z.numbered + length (pending_at b.hub x)) (change.table.entries x ne) ∙ ap (λ (z : List (List ℕ)). (entry_at a.hub x).numbered + length z) (change.pending x ne) ∙ no_more (items_at a.hub x);
+  front = λ there gone few items stands. clash (is_present b.hub x) gone (change_present change x ne ∙ there);
+  taken = λ gone. taken_same x a.net b.net tells taken;
+  drops = λ gone. drops_same x a.told b.told ns told silent;
 }

@@ -1,5 +1,5 @@
 -- Connections that are finished, one after another, as a turn ends.
-use Rattle.std.proofs.Common.{◌≡◌, ◌≢◌, ◌<◌, ◌≤◌, ◌+◌, ◌-◌, ◌^◌, ℕ, List, [], ◌∷◌, ◌++◌, Option, Some, None, Bool, true, false, cond, not, ◌||◌, nat_eq, nat_lt, refl, sym, ap, ◌∙◌, subst, append-nil, arith}
+use Rattle.std.proofs.Common.{length, inl, ◌≡◌, ◌≢◌, ◌<◌, ◌≤◌, ◌+◌, ◌-◌, ◌^◌, ℕ, List, [], ◌∷◌, ◌++◌, Option, Some, None, Bool, true, false, cond, not, ◌||◌, nat_eq, nat_lt, refl, sym, ap, ◌∙◌, subst, append-nil, arith}
 use Rattle.std.proofs.lemmas.Bool.Decides.{nat_tests}
 use Rattle.ws_kinds.specs.declared.note.Left.TheVariants.{Finished}
 use Rattle.ws_kinds.specs.declared.note.Phase.{Phase}
@@ -12,23 +12,28 @@ use Rattle.wire_meaning.specs.Answer.{Item}
 use Rattle.run_meaning.specs.Counts.{has_number}
 use Rattle.hub_lines.specs.Told.{taken_of, is_dropped}
 use Rattle.hub_lines.specs.Items.{joined}
-use Rattle.hub_lines.specs.State.{HubState, Entry, Server, server, is_gone, has_entry, entry_of, is_present, phase_at, entry_at, ring_at, cork_at, pending_at}
+use Rattle.hub_lines.specs.State.{HubState, Entry, TellingValue, Server, server, is_gone, has_entry, is_present, phase_at, entry_at, ring_at, cork_at, pending_at}
 use Rattle.hub_lines.specs.Lines.{StandsFor}
 use Rattle.hub_lines.specs.Calls.{nothing}
 use Rattle.hub_lines.proofs.EntryLemmas.{present_entry}
 use Rattle.hub_lines.proofs.KeptLemmas.{kept_same}
 use Rattle.hub_notes.specs.NetAfter.{FailsAfter}
-use Rattle.hub_notes.specs.Fronts.{TakesAll, SameDrops, items_at}
+use Rattle.hub_lines.specs.Fronts.{TakesAll}
+use Rattle.hub_notes.specs.Fronts.{SameDrops, items_at}
 use Rattle.hub_notes.specs.Calls.{Advances, Appends}
 use Rattle.hub_notes.proofs.BoolLemmas.{by_cases, clash}
 use Rattle.hub_notes.proofs.NetLemmas.{fails_then, fails_same}
-use Rattle.hub_notes.proofs.CallLemmas.{advances_then, advances_same, proceeds_last}
+use Rattle.hub_notes.proofs.CallLemmas.{advances_then, advances_same}
 use Rattle.hub_notes.proofs.FrontLemmas.{appends_before_nothing, appends_same}
-use Rattle.hub_table.specs.Table.{TableState, IsTable}
-use Rattle.hub_core.specs.State.{server_of}
-use Rattle.hub_core.specs.Turns.{Rise, finishes, FinishesOne, FinishesIfEmpty, EndsTurn}
-use Rattle.hub_core.proofs.NoteLemmas.{advances_noted, fails_noted}
-use Rattle.hub_core.proofs.CallLemmas.{notes_nobody, appends_quiet}
+use Rattle.hub_notes.specs.Table.{IsTable, table_of}
+use Rattle.hub_notes.specs.Tells.{tell_of, tell_at, held_in}
+use Rattle.hub_notes.specs.Progress.{may_leave_by}
+use Rattle.run_meaning.specs.Tell.{nothing_told, at_turn}
+use Rattle.run_meaning.specs.Notes.{is_turn}
+use Rattle.std.specs.List.{list_any}
+use Rattle.hub_core.specs.Changes.{Goes}
+use Rattle.hub_notes.specs.Turns.{Rise, finishes, FinishesOne, FinishesIfEmpty, EndsTurn}
+use Rattle.hub_core.proofs.NoteLemmas.{NotesOne, advances_noted, fails_noted, appends_noted, same_or_not}
 
 -- these were finished, in order, the last one with a number up to `after`; who is still ending up to there holds octets
 pub record Finishing (after : ℕ) (old new : Server) : Type 0 where
@@ -205,30 +210,87 @@ ring_empty : (xs ys : List ℕ) → xs ++ ys ≡ [] → xs ≡ []
 ring_empty [] ys e = refl
 ring_empty (x ∷ xs) ys e = cc
 
--- the turn is noted, and nobody above is ending
-pub finishing_ends : (after : ℕ) (old : Server) (h : HubState) (net : NetState) (t t' : Option (List NoteValue)) → Finishing after old (server h net t) → ((c : ℕ) → after < c → (entry_at h c).phase ≢ Ending) → IsNoted t note.turn t'
-    → EndsTurn old (server h net t')
-finishing_ends after old h net t t' f none told = record {
-  finished = f.finished;
-  rising = f.rising;
-  proceeds = proceeds_last (finishes f.finished ++ note.turn ∷ []) old (server h net t')
-      (advances_then (finishes f.finished) (note.turn ∷ []) old (server h net t) (server h net t') f.advances (advances_noted 0 note.turn h h net t t' told refl (notes_nobody h note.turn (λ d. refl))))
-      (fails_then (finishes f.finished) (note.turn ∷ []) old.net net net f.advances.net.net.tells f.fails (fails_noted note.turn net refl));
-  ending = λ c e empty. at_any after c
-      (λ low. f.below c low (phase_of h c Ending e) (ring_empty (ring_at h c) (cork_at h c ++ joined (pending_at h c)) empty))
-      (λ high. none c high (phase_of h c Ending e));
-  whole = λ c e few items s. let k = (appends_quiet h net t t' note.turn told (λ d. refl)).fronts c (known_later c old (server h net t) f.appends (f.known c e)) in
-      all_later c items net net t t' (k.taken (f.away c e)) k.told (k.drops (f.away c e)) (f.whole c e few items s);
+finishes_turnless : (ns : List ℕ) → list_any is_turn (finishes ns) ≡ false
+finishes_turnless [] = refl
+finishes_turnless (n ∷ ns) = finishes_turnless ns
+
+-- the turn's end, at which it is found what is to be told of each connection
+abbrev pub with_tellings : HubState → List TellingValue → HubState
+with_tellings h tellings = record h { tellings = tellings }
+
+notes_turn : (h : HubState) (tellings : List TellingValue) → NotesOne 0 note.turn h (with_tellings h tellings)
+notes_turn h tellings = record {
+  others = λ d ne. refl;
+  may = λ own. clash false refl own;
+  here = refl;
+  elsewhere = λ d ne. refl;
+  tells = λ e. clash true e refl;
+  counts = λ e d there. (there, refl);
 }
 
-pub appends_finished : (after : ℕ) (old : Server) (h : HubState) (net : NetState) (t t' : Option (List NoteValue)) → Finishing after old (server h net t) → IsNoted t note.turn t' → Appends nothing old (server h net t')
-appends_finished after old h net t t' f told = appends_before_nothing nothing old (server h net t) (server h net t') f.appends (appends_quiet h net t t' note.turn told (λ d. refl))
+appends_turn : (h : HubState) (tellings : List TellingValue) (net : NetState) (t t' : Option (List NoteValue)) → IsNoted t note.turn t' → Appends nothing (server h net t) (server (with_tellings h tellings) net t')
+appends_turn h tellings net t t' told = appends_noted h (with_tellings h tellings) net t t' note.turn refl (omega arith) told (λ d. refl) (λ d. inl (record { held = refl; gone = refl }))
+
+module _ {after : ℕ} {old : Server} {h : HubState} {net : NetState} {t : Option (List NoteValue)} (f : Finishing after old (server h net t)) (tellings : List TellingValue) (t' : Option (List NoteValue)) (told : IsNoted t note.turn t') where
+  -- the turn is noted, and nobody above is ending
+  pub finishing_ends : ((c : ℕ) → after < c → (entry_at h c).phase ≢ Ending) → ((c : ℕ) → tell_of tellings c ≡ at_turn (held_in h c) (tell_at h c)) → EndsTurn old (server (with_tellings h tellings) net t')
+  finishing_ends none tells = record {
+    finished = f.finished;
+    rising = f.rising;
+    proceeds = record {
+      sending = [];
+      outgoing = refl;
+      advances = advances_then (finishes f.finished) (note.turn ∷ []) old (server h net t) (server (with_tellings h tellings) net t') f.advances (advances_noted 0 note.turn h (with_tellings h tellings) net t t' told refl (notes_turn h tellings));
+      fails = fails_then (finishes f.finished) (note.turn ∷ []) old.net net net f.advances.net.net.tells f.fails (fails_noted note.turn net refl);
+    };
+    tells = λ c. tells c ∙ ap (at_turn (held_in h c)) (f.advances.tells (finishes_turnless f.finished) c);
+    ending = λ c e empty. at_any after c
+        (λ low. f.below c low (phase_of h c Ending e) (ring_empty (ring_at h c) (cork_at h c ++ joined (pending_at h c)) empty))
+        (λ high. none c high (phase_of h c Ending e));
+    whole = λ c e few items s. let k = (appends_turn h tellings net t t' told).fronts c (known_later c old (server h net t) f.appends (f.known c e)) in
+        all_later c items net net t t' (k.taken (f.away c e)) k.told (k.drops (f.away c e)) (f.whole c e few items s);
+  }
+
+  pub appends_finished : Appends nothing old (server (with_tellings h tellings) net t')
+  appends_finished = appends_before_nothing nothing old (server h net t) (server (with_tellings h tellings) net t') f.appends (appends_turn h tellings net t t' told)
+
+-- as long as nothing is held back and nothing is to be told
+pub none_told : (h : HubState) → ((c : ℕ) → ring_at h c ≡ []) → ((c : ℕ) → tell_at h c ≡ nothing_told) → (c : ℕ) → tell_at h c ≡ at_turn (held_in h c) (tell_at h c)
+none_told h rings none c =
+    none c ∙ ap (λ (z : ℕ). at_turn z nothing_told) (sym (held (is_present h c) (ring_at h c) (rings c))) ∙ ap (at_turn (held_in h c)) (sym (none c))
+  where
+    held : (there : Bool) (ring : List ℕ) → ring ≡ [] → cond there (length ring) 0 ≡ 0
+    held true ring e = ap length e
+    held false ring e = refl
 
 -- there is no connection 0
-pub none_at_zero : (table : TableState) (net : NetState) (t : Option (List NoteValue)) → IsTable table → Finishing 0 (server_of table net t) (server_of table net t)
-none_at_zero table net t whole = finishing_starts (server_of table net t) (λ c few ending.
-    let has : has_entry table.entries c ≡ true = present_entry table.entries c (ap (λ (z : Phase). not (is_gone z)) ending) in
+pub none_at_zero : (h : HubState) (net : NetState) (t : Option (List NoteValue)) → IsTable (table_of h) → Finishing 0 (server h net t) (server h net t)
+none_at_zero h net t whole = finishing_starts (server h net t) (λ c few ending.
+    let has : has_entry h.entries c ≡ true = present_entry h.entries c (ap (λ (z : Phase). not (is_gone z)) ending) in
     let one = whole.first c has in absurd (omega arith))
 
-pub is_known : (table : TableState) (c : ℕ) → IsTable table → (entry_of table.entries c).phase ≡ Ending → c ≤ table.named
-is_known table c whole ending = whole.named c (present_entry table.entries c (ap (λ (z : Phase). not (is_gone z)) ending))
+pub is_known : (h : HubState) (c : ℕ) → IsTable (table_of h) → (entry_at h c).phase ≡ Ending → c ≤ h.named
+is_known h c whole ending = whole.named c (present_entry h.entries c (ap (λ (z : Phase). not (is_gone z)) ending))
+
+-- a connection that is ending, for which nothing is held, is finished
+pub finishes_one : {c : ℕ} {a b : Server} → Goes c Finished a b → (entry_at a.hub c).phase ≡ Ending → ring_at a.hub c ≡ [] → FinishesOne c a b
+finishes_one {c} {a} {b} g ending empty = record {
+  advances = g.advances (ap (λ (z : Phase). may_leave_by (Some z) Finished) ending);
+  fails = g.fails refl;
+  appends = g.appends;
+  away = g.away;
+  whole = g.whole empty;
+  ending = λ d e. same_or_not c d
+      (λ q. clash (is_present b.hub d) (ap (is_present b.hub) q ∙ g.away) (ap (λ (z : Phase). not (is_gone z)) e))
+      (λ ne. (ap (λ (z : Entry). z.phase) (sym (g.leaves.change.table.entries d ne)) ∙ e, ap (λ (z : Entry). z.ring) (g.leaves.change.table.entries d ne)));
+}
+
+no_octets : (xs : List ℕ) → length xs ≡ 0 → xs ≡ []
+no_octets [] e = refl
+no_octets (x ∷ xs) e = absurd (omega arith)
+
+pub finishes_empty : {c : ℕ} {a b : Server} → Goes c Finished a b → (entry_at a.hub c).phase ≡ Ending → length (ring_at a.hub c) ≡ 0 → FinishesIfEmpty c a b
+finishes_empty {c} {a} g ending none = record { empty = finishes_one g ending; holds = λ some. absurd (some (no_octets (ring_at a.hub c) none)) }
+
+pub passes_over : (c : ℕ) (a : Server) → (length (ring_at a.hub c) ≡ 0 → ⊥) → FinishesIfEmpty c a a
+passes_over c a some = record { empty = λ e. absurd (some (ap length e)); holds = λ _. refl }

@@ -1,4 +1,10 @@
 pub mod State
 pub mod Answers
-pub mod Orders
-pub mod Turns
+pub mod At
+pub mod Changes
+pub mod Puts
+pub mod Sends
+pub mod Connection
+pub mod Parting
+pub mod ConnectionMap
+pub mod NumberSet

@@ -3,7 +3,7 @@ use Rattle.std.specs.Prelude.{[], None, List, Option}
 use Rattle.ws_kinds.specs.NoteValue.{NoteValue}
 use Rattle.link_trait.specs.NetState.{NetState}
 use Rattle.hub_lines.specs.State.{HubState, Server, server}
-use Rattle.hub_table.specs.Table.{TableState}
+use Rattle.hub_notes.specs.Table.{TableState}
 
 -- nothing is in a cork, pending, stored, subscribed to or to be told
 abbrev pub hub_of : TableState → HubState

@@ -1,19 +1,18 @@
 //! What comes for one connection of a hub.
 
 ghost use Rattle.std.specs.Prelude.{◌≡◌, ◌≤◌, [], ◌∷◌, true, length, Some};
-ghost use Rattle.ws_kinds.specs.declared.note.Left.TheVariants.{PeerEnd, LinkFailed};
+ghost use Rattle.ws_kinds.specs.declared.note.Left.TheVariants.{PeerEnd};
 ghost use Rattle.ws_kinds.specs.declared.note.Phase.TheVariants.{Head, Open};
 ghost use Rattle.ws_kinds.specs.NoteValue as note;
 ghost use Rattle.wire_meaning.specs.declared.frame.Opcode.TheVariants.{Pong};
 ghost use Rattle.wire_meaning.specs.Answer.{reply as replied, whole, close_item};
 ghost use Rattle.run_meaning.specs.Lines.{is_open};
 ghost use Rattle.run_meaning.specs.Settled.{is_reading};
-ghost use Rattle.hub_lines.specs.State.{server, phase_at};
-ghost use Rattle.hub_lines.specs.Calls.{Ties, SameElsewhere, SameLinesElsewhere, nothing, only, served};
-ghost use Rattle.hub_notes.specs.Calls.{Advances, Proceeds, Appends};
-ghost use Rattle.hub_notes.specs.NetAfter.{FailsAfter};
-ghost use Rattle.hub_table.specs.Table.{IsTable, table_of};
-ghost use Rattle.hub_core.specs.Answers.{Makes, has_frames, is_failure, IsClose};
+ghost use Rattle.hub_lines.specs.State.{phase_at};
+ghost use Rattle.hub_lines.specs.Calls.{Ties, only, served};
+ghost use Rattle.hub_notes.specs.Answers.{has_frames, is_failure, IsClose};
+ghost use Rattle.hub_core.specs.At.{at};
+ghost use Rattle.hub_core.specs.Sends.{GivesOctets, Notes, LosesLink, Sends};
 
 use crate::Hub;
 use link_trait::{Net, Outside};
@@ -25,15 +24,10 @@ impl Hub {
     pub fn given<N: Net, W: Watch>(&mut self, out: &mut Outside<N, W>, conn: Conn, count: u64)
         requires phase { is_reading (phase_at self.old conn.0) ≡ true }
         requires some { 1 ≤ count }
-        requires ties { Ties (server self.old (N.state out.old.net) (W.told out.old.watch)) }
-        ensures ties { Ties (server self.new (N.state out.new.net) (W.told out.new.watch)) }
-        ensures makes { Makes (note.given conn.0 count ∷ []) (server self.old (N.state out.old.net) (W.told out.old.watch)) (server self.new (N.state out.new.net) (W.told out.new.watch)) }
-        ensures appends { Appends nothing (server self.old (N.state out.old.net) (W.told out.old.watch)) (server self.new (N.state out.new.net) (W.told out.new.watch)) }
-        ensures elsewhere { SameElsewhere conn.0 self.old self.new }
-        ensures named { self.new.named ≡ self.old.named }
-        ensures table { IsTable (table_of self.new) }
+        requires ties { Ties (at N.Net W.Watch self.old out.old) }
+        ensures { GivesOctets conn.0 count (at N.Net W.Watch self.old out.old) (at N.Net W.Watch self.new out.new) }
     {
-        let _ = &self.table;
+        self.table.no_ticks();
         out.watch.note(&Note::Given { conn, count });
     }
 
@@ -49,13 +43,8 @@ impl Hub {
     )
         requires phase { phase_at self.old conn.0 ≡ Some Head }
         requires reply { (1 ≤ length reply.now) × (length reply.now ≤ 256) }
-        requires ties { Ties (server self.old (N.state out.old.net) (W.told out.old.watch)) }
-        ensures ties { Ties (server self.new (N.state out.new.net) (W.told out.new.watch)) }
-        ensures proceeds { Proceeds (note.opened conn.0 route param.now ∷ []) [] (server self.old (N.state out.old.net) (W.told out.old.watch)) (server self.new (N.state out.new.net) (W.told out.new.watch)) }
-        ensures appends { Appends (only conn.0 (replied reply.now)) (server self.old (N.state out.old.net) (W.told out.old.watch)) (server self.new (N.state out.new.net) (W.told out.new.watch)) }
-        ensures elsewhere { SameLinesElsewhere conn.0 (server self.old (N.state out.old.net) (W.told out.old.watch)) (server self.new (N.state out.new.net) (W.told out.new.watch)) }
-        ensures named { self.new.named ≡ self.old.named }
-        ensures table { IsTable (table_of self.new) }
+        requires ties { Ties (at N.Net W.Watch self.old out.old) }
+        ensures { Sends conn.0 (note.opened conn.0 route param.now ∷ []) (only conn.0 (replied reply.now)) (at N.Net W.Watch self.old out.old) (at N.Net W.Watch self.new out.new) }
     {
         self.table.enter(conn, Phase::Open);
         out.watch.note(&Note::Opened { conn, route, param });
@@ -73,13 +62,8 @@ impl Hub {
     )
         requires phase { phase_at self.old conn.0 ≡ Some Head }
         requires reply { (1 ≤ length reply.now) × (length reply.now ≤ 256) }
-        requires ties { Ties (server self.old (N.state out.old.net) (W.told out.old.watch)) }
-        ensures ties { Ties (server self.new (N.state out.new.net) (W.told out.new.watch)) }
-        ensures proceeds { Proceeds (note.head conn.0 status ∷ []) [] (server self.old (N.state out.old.net) (W.told out.old.watch)) (server self.new (N.state out.new.net) (W.told out.new.watch)) }
-        ensures appends { Appends (only conn.0 (replied reply.now)) (server self.old (N.state out.old.net) (W.told out.old.watch)) (server self.new (N.state out.new.net) (W.told out.new.watch)) }
-        ensures elsewhere { SameLinesElsewhere conn.0 (server self.old (N.state out.old.net) (W.told out.old.watch)) (server self.new (N.state out.new.net) (W.told out.new.watch)) }
-        ensures named { self.new.named ≡ self.old.named }
-        ensures table { IsTable (table_of self.new) }
+        requires ties { Ties (at N.Net W.Watch self.old out.old) }
+        ensures { Sends conn.0 (note.head conn.0 status ∷ []) (only conn.0 (replied reply.now)) (at N.Net W.Watch self.old out.old) (at N.Net W.Watch self.new out.new) }
     {
         self.table.enter(conn, Phase::Ending);
         out.watch.note(&Note::Head { conn, status });
@@ -91,13 +75,8 @@ impl Hub {
     pub fn ping_got<N: Net, W: Watch>(&mut self, out: &mut Outside<N, W>, conn: Conn, body: &[u8])
         requires phase { phase_at self.old conn.0 ≡ Some Open }
         requires short { length body.now ≤ 125 }
-        requires ties { Ties (server self.old (N.state out.old.net) (W.told out.old.watch)) }
-        ensures ties { Ties (server self.new (N.state out.new.net) (W.told out.new.watch)) }
-        ensures proceeds { Proceeds (note.ping_got conn.0 body.now ∷ []) [] (server self.old (N.state out.old.net) (W.told out.old.watch)) (server self.new (N.state out.new.net) (W.told out.new.watch)) }
-        ensures appends { Appends (only conn.0 (whole Pong body.now)) (server self.old (N.state out.old.net) (W.told out.old.watch)) (server self.new (N.state out.new.net) (W.told out.new.watch)) }
-        ensures elsewhere { SameLinesElsewhere conn.0 (server self.old (N.state out.old.net) (W.told out.old.watch)) (server self.new (N.state out.new.net) (W.told out.new.watch)) }
-        ensures named { self.new.named ≡ self.old.named }
-        ensures table { IsTable (table_of self.new) }
+        requires ties { Ties (at N.Net W.Watch self.old out.old) }
+        ensures { Sends conn.0 (note.ping_got conn.0 body.now ∷ []) (only conn.0 (whole Pong body.now)) (at N.Net W.Watch self.old out.old) (at N.Net W.Watch self.new out.new) }
     {
         out.watch.note(&Note::PingGot { conn, body });
         self.put(out, conn, Item::Frame(10, body));
@@ -106,13 +85,8 @@ impl Hub {
     /// A pong was read of an open connection (RFC 6455, section 5.5.3).
     pub fn pong_got<N: Net, W: Watch>(&mut self, out: &mut Outside<N, W>, conn: Conn, body: &[u8])
         requires phase { phase_at self.old conn.0 ≡ Some Open }
-        requires ties { Ties (server self.old (N.state out.old.net) (W.told out.old.watch)) }
-        ensures ties { Ties (server self.new (N.state out.new.net) (W.told out.new.watch)) }
-        ensures makes { Makes (note.pong_got conn.0 body.now ∷ []) (server self.old (N.state out.old.net) (W.told out.old.watch)) (server self.new (N.state out.new.net) (W.told out.new.watch)) }
-        ensures appends { Appends nothing (server self.old (N.state out.old.net) (W.told out.old.watch)) (server self.new (N.state out.new.net) (W.told out.new.watch)) }
-        ensures elsewhere { SameElsewhere conn.0 self.old self.new }
-        ensures named { self.new.named ≡ self.old.named }
-        ensures table { IsTable (table_of self.new) }
+        requires ties { Ties (at N.Net W.Watch self.old out.old) }
+        ensures { Notes conn.0 (note.pong_got conn.0 body.now ∷ []) (at N.Net W.Watch self.old out.old) (at N.Net W.Watch self.new out.new) }
     {
         let _ = &self.table;
         out.watch.note(&Note::PongGot { conn, body });
@@ -130,13 +104,9 @@ impl Hub {
     )
         requires phase { has_frames (phase_at self.old conn.0) ≡ true }
         requires code { IsClose code reason.now }
-        requires ties { Ties (server self.old (N.state out.old.net) (W.told out.old.watch)) }
-        ensures ties { Ties (server self.new (N.state out.new.net) (W.told out.new.watch)) }
-        ensures proceeds { Proceeds (note.peer_close conn.0 code reason.now ∷ []) [] (server self.old (N.state out.old.net) (W.told out.old.watch)) (server self.new (N.state out.new.net) (W.told out.new.watch)) }
-        ensures appends { Appends (served (is_open (phase_at self.old conn.0)) (only conn.0 (close_item code))) (server self.old (N.state out.old.net) (W.told out.old.watch)) (server self.new (N.state out.new.net) (W.told out.new.watch)) }
-        ensures elsewhere { SameLinesElsewhere conn.0 (server self.old (N.state out.old.net) (W.told out.old.watch)) (server self.new (N.state out.new.net) (W.told out.new.watch)) }
-        ensures named { self.new.named ≡ self.old.named }
-        ensures table { IsTable (table_of self.new) }
+        requires ties { Ties (at N.Net W.Watch self.old out.old) }
+        ensures { Sends conn.0 (note.peer_close conn.0 code reason.now ∷ []) (served (is_open (phase_at self.old conn.0)) (only conn.0 (close_item code)))
+            (at N.Net W.Watch self.old out.old) (at N.Net W.Watch self.new out.new) }
     {
         let was_open = self.end(conn, code, reason);
         out.watch.note(&Note::PeerClose { conn, code, reason });
@@ -151,13 +121,9 @@ impl Hub {
     pub fn failed<N: Net, W: Watch>(&mut self, out: &mut Outside<N, W>, conn: Conn, code: u16)
         requires phase { has_frames (phase_at self.old conn.0) ≡ true }
         requires code { is_failure code ≡ true }
-        requires ties { Ties (server self.old (N.state out.old.net) (W.told out.old.watch)) }
-        ensures ties { Ties (server self.new (N.state out.new.net) (W.told out.new.watch)) }
-        ensures proceeds { Proceeds (note.failed conn.0 code ∷ []) [] (server self.old (N.state out.old.net) (W.told out.old.watch)) (server self.new (N.state out.new.net) (W.told out.new.watch)) }
-        ensures appends { Appends (served (is_open (phase_at self.old conn.0)) (only conn.0 (close_item code))) (server self.old (N.state out.old.net) (W.told out.old.watch)) (server self.new (N.state out.new.net) (W.told out.new.watch)) }
-        ensures elsewhere { SameLinesElsewhere conn.0 (server self.old (N.state out.old.net) (W.told out.old.watch)) (server self.new (N.state out.new.net) (W.told out.new.watch)) }
-        ensures named { self.new.named ≡ self.old.named }
-        ensures table { IsTable (table_of self.new) }
+        requires ties { Ties (at N.Net W.Watch self.old out.old) }
+        ensures { Sends conn.0 (note.failed conn.0 code ∷ []) (served (is_open (phase_at self.old conn.0)) (only conn.0 (close_item code)))
+            (at N.Net W.Watch self.old out.old) (at N.Net W.Watch self.new out.new) }
     {
         let was_open = self.end(conn, code, &[]);
         out.watch.note(&Note::Failed { conn, code });
@@ -170,13 +136,8 @@ impl Hub {
     /// discarded, and its link is shut. From Open, its Closed event is due, with 1006 and no reason.
     pub fn ended<N: Net, W: Watch>(&mut self, out: &mut Outside<N, W>, conn: Conn)
         requires phase { is_reading (phase_at self.old conn.0) ≡ true }
-        requires ties { Ties (server self.old (N.state out.old.net) (W.told out.old.watch)) }
-        ensures ties { Ties (server self.new (N.state out.new.net) (W.told out.new.watch)) }
-        ensures makes { Makes (note.gone conn.0 PeerEnd ∷ []) (server self.old (N.state out.old.net) (W.told out.old.watch)) (server self.new (N.state out.new.net) (W.told out.new.watch)) }
-        ensures appends { Appends nothing (server self.old (N.state out.old.net) (W.told out.old.watch)) (server self.new (N.state out.new.net) (W.told out.new.watch)) }
-        ensures elsewhere { SameElsewhere conn.0 self.old self.new }
-        ensures named { self.new.named ≡ self.old.named }
-        ensures table { IsTable (table_of self.new) }
+        requires ties { Ties (at N.Net W.Watch self.old out.old) }
+        ensures { Notes conn.0 (note.gone conn.0 PeerEnd ∷ []) (at N.Net W.Watch self.old out.old) (at N.Net W.Watch self.new out.new) }
     {
         self.leave(out, conn, Left::PeerEnd);
     }
@@ -185,14 +146,8 @@ impl Hub {
     /// its link is shut. From Open, its Closed event is due, with 1006 and no reason.
     pub fn link_failed<N: Net, W: Watch>(&mut self, out: &mut Outside<N, W>, conn: Conn)
         requires phase { is_reading (phase_at self.old conn.0) ≡ true }
-        requires ties { Ties (server self.old (N.state out.old.net) (W.told out.old.watch)) }
-        ensures ties { Ties (server self.new (N.state out.new.net) (W.told out.new.watch)) }
-        ensures advances { Advances (note.gone conn.0 LinkFailed ∷ []) (server self.old (N.state out.old.net) (W.told out.old.watch)) (server self.new (N.state out.new.net) (W.told out.new.watch)) }
-        ensures fails { FailsAfter [] (N.state out.old.net) (N.state out.new.net) }
-        ensures appends { Appends nothing (server self.old (N.state out.old.net) (W.told out.old.watch)) (server self.new (N.state out.new.net) (W.told out.new.watch)) }
-        ensures elsewhere { SameElsewhere conn.0 self.old self.new }
-        ensures named { self.new.named ≡ self.old.named }
-        ensures table { IsTable (table_of self.new) }
+        requires ties { Ties (at N.Net W.Watch self.old out.old) }
+        ensures { LosesLink conn.0 (at N.Net W.Watch self.old out.old) (at N.Net W.Watch self.new out.new) }
     {
         self.leave(out, conn, Left::LinkFailed);
     }

@@ -7,27 +7,21 @@ ghost use Rattle.link_trait.specs.NetState.{NetState};
 ghost use Rattle.hub_lines.specs.State.{server, phase_at, ring_at};
 ghost use Rattle.hub_lines.specs.Lines.{held_at, held_octets};
 ghost use Rattle.hub_lines.specs.Calls.{Ties, Settled, nothing};
+ghost use Rattle.ws_kinds.specs.NoteValue as note;
+ghost use Rattle.hub_notes.specs.Quiet.{CountsBy};
 ghost use Rattle.hub_notes.specs.Calls.{Appends};
-ghost use Rattle.hub_table.specs.Parting.{parting_value};
-ghost use Rattle.hub_table.specs.Table.{IsTable, TakesDue, table_of};
-ghost use Rattle.hub_core.specs.Answers.{Arrives};
+ghost use Rattle.hub_core.specs.Parting.{parting_value};
+ghost use Rattle.hub_core.specs.At.{at};
+ghost use Rattle.hub_notes.specs.Table.{IsTable, TakesDue, table_of};
+ghost use Rattle.hub_notes.specs.Answers.{Arrives};
 
-use hub_table::{Connections, Parting};
+use crate::connections::Connections;
+use crate::parting::Parting;
+use hub_notes::Arrival;
 use link_trait::{Net, Outside};
 use std::alloc::{AllocError, Global};
 use std::marker::Model;
 use ws_kinds::{Config, Conn, Note, Phase, Watch};
-
-/// What became of a connection that came.
-#[derive(Clone, Copy, Debug, PartialEq, Eq)]
-pub enum Arrival {
-    /// It is accepted.
-    Taken,
-    /// There are as many connections as there may be.
-    Busy,
-    /// There was too little memory for it.
-    Memory,
-}
 
 /// All connections of a server.
 ///
@@ -40,7 +34,7 @@ pub struct Hub {
 
 impl Model for Hub {
     ghost use Rattle.hub_lines.specs.State.{HubState};
-    ghost use Rattle.hub_table.specs.Table.{IsTable};
+    ghost use Rattle.hub_notes.specs.Table.{IsTable};
     ghost use Rattle.hub_core.specs.State.{hub_of};
 
     ghost Value = { HubState };
@@ -56,6 +50,7 @@ impl Hub {
         ensures config { IfOk result (λ hub. hub.config ≡ config) }
         ensures named { IfOk result (λ hub. hub.named ≡ 0) }
         ensures entries { IfOk result (λ hub. hub.entries ≡ []) }
+        ensures pairs { IfOk result (λ hub. hub.pairs ≡ []) }
         ensures partings { IfOk result (λ hub. hub.partings ≡ []) }
         ensures settled { IfOk result (λ hub. Settled hub) }
     {
@@ -70,10 +65,11 @@ impl Hub {
     pub fn accept<N: Net, W: Watch>(&mut self, out: &mut Outside<N, W>, conn: Conn) -> Arrival
         requires new { self.old.named < conn.0 }
         requires live { (N.state out.old.net).live conn.0 ≡ true }
-        requires ties { Ties (server self.old (N.state out.old.net) (W.told out.old.watch)) }
-        ensures ties { Ties (server self.new (N.state out.new.net) (W.told out.new.watch)) }
-        ensures answer { Arrives result conn.0 (server self.old (N.state out.old.net) (W.told out.old.watch)) (server self.new (N.state out.new.net) (W.told out.new.watch)) }
-        ensures appends { Appends nothing (server self.old (N.state out.old.net) (W.told out.old.watch)) (server self.new (N.state out.new.net) (W.told out.new.watch)) }
+        requires ties { Ties (at N.Net W.Watch self.old out.old) }
+        ensures ties { Ties (at N.Net W.Watch self.new out.new) }
+        ensures answer { Arrives result conn.0 (at N.Net W.Watch self.old out.old) (at N.Net W.Watch self.new out.new) }
+        ensures counts { result ≡ Arrival.Taken → CountsBy (note.accepted conn.0) self.old self.new }
+        ensures appends { Appends nothing (at N.Net W.Watch self.old out.old) (at N.Net W.Watch self.new out.new) }
         ensures table { IsTable (table_of self.new) }
     {
         if self.table.is_full() {
@@ -96,6 +92,7 @@ impl Hub {
         ensures ties { (net : NetState) (told : Option (List NoteValue)) → Ties (server self.old net told) → Ties (server self.new net told) }
         ensures none { IfNone result (self.new ≡ self.old) }
         ensures some { IfSome result (λ parting. (self.new.config ≡ self.old.config) × (self.new.named ≡ self.old.named)) }
+        ensures pairs { self.new.pairs ≡ self.old.pairs }
         ensures table { IsTable (table_of self.new) }
     {
         self.table.next_closed()

@@ -1,18 +1,18 @@
 //! The orders of a handler.
 
-ghost use Rattle.std.specs.Prelude.{◌≡◌, [], is_ok, OnErr, IfOk};
+ghost use Rattle.std.specs.Prelude.{◌≡◌};
 ghost use Rattle.std.specs.Str.{is_utf8};
 ghost use Rattle.ws_kinds.specs.OrderValue.{order_value, order_values, send};
 ghost use Rattle.wire_meaning.specs.declared.frame.Opcode.TheVariants.{Begins};
 ghost use Rattle.wire_meaning.specs.Frame.{opcode_number};
-ghost use Rattle.wire_meaning.specs.Answer.{whole};
+ghost use Rattle.run_meaning.specs.Server.{every_topic};
 ghost use Rattle.run_meaning.specs.Orders.{why_send};
-ghost use Rattle.hub_lines.specs.State.{server, phase_at};
-ghost use Rattle.hub_lines.specs.Calls.{Ties, SameLinesElsewhere, only, served};
-ghost use Rattle.hub_notes.specs.Calls.{Proceeds, Appends};
-ghost use Rattle.hub_table.specs.Table.{IsTable, table_of};
-ghost use Rattle.hub_core.specs.Answers.{TellsPut, reason_of};
-ghost use Rattle.hub_core.specs.Orders.{Serves, ServesAll};
+ghost use Rattle.hub_lines.specs.State.{phase_at};
+ghost use Rattle.hub_lines.specs.Calls.{Ties};
+ghost use Rattle.hub_notes.specs.Serving.{Serves, ServesAll};
+ghost use Rattle.hub_notes.specs.Table.{IsTable, table_of};
+ghost use Rattle.hub_core.specs.At.{at};
+ghost use Rattle.hub_core.specs.Sends.{SendsMessage};
 
 use crate::Hub;
 use link_trait::{Net, Outside};
@@ -55,17 +55,8 @@ impl Hub {
         kind: Kind,
         body: &[u8],
     ) -> Result<Kept, Why>
-        requires ties { Ties (server self.old (N.state out.old.net) (W.told out.old.watch)) }
-        ensures ties { Ties (server self.new (N.state out.new.net) (W.told out.new.watch)) }
-        ensures reason { reason_of result ≡ why_send self.old.config (phase_at self.old to.0) kind body.now }
-        ensures refused { OnErr result ((server self.new (N.state out.new.net) (W.told out.new.watch)) ≡ (server self.old (N.state out.old.net) (W.told out.old.watch))) }
-        ensures kept { IfOk result (λ kept. TellsPut kept to.0 self.new) }
-        ensures proceeds { Proceeds [] [] (server self.old (N.state out.old.net) (W.told out.old.watch)) (server self.new (N.state out.new.net) (W.told out.new.watch)) }
-        ensures appends { Appends (served (is_ok result) (only to.0 (whole (Begins kind) body.now))) (server self.old (N.state out.old.net) (W.told out.old.watch)) (server self.new (N.state out.new.net) (W.told out.new.watch)) }
-        ensures elsewhere { SameLinesElsewhere to.0 (server self.old (N.state out.old.net) (W.told out.old.watch)) (server self.new (N.state out.new.net) (W.told out.new.watch)) }
-        ensures named { self.new.named ≡ self.old.named }
-        ensures config { self.new.config ≡ self.old.config }
-        ensures table { IsTable (table_of self.new) }
+        requires ties { Ties (at N.Net W.Watch self.old out.old) }
+        ensures { SendsMessage to.0 kind body.now result (at N.Net W.Watch self.old out.old) (at N.Net W.Watch self.new out.new) }
     {
         let _ = &self.table;
         match self.refusal(to, kind, body) {
@@ -82,9 +73,9 @@ impl Hub {
         conn: Conn,
         orders: &Orders<'_>,
     )
-        requires ties { Ties (server self.old (N.state out.old.net) (W.told out.old.watch)) }
-        ensures ties { Ties (server self.new (N.state out.new.net) (W.told out.new.watch)) }
-        ensures serves { ServesAll conn.0 0 (order_values orders.now.items) (server self.old (N.state out.old.net) (W.told out.old.watch)) (server self.new (N.state out.new.net) (W.told out.new.watch)) }
+        requires ties { Ties (at N.Net W.Watch self.old out.old) }
+        ensures ties { Ties (at N.Net W.Watch self.new out.new) }
+        ensures serves { ServesAll self.old.config every_topic conn.0 0 (order_values orders.now.items) (at N.Net W.Watch self.old out.old) (at N.Net W.Watch self.new out.new) }
         ensures named { self.new.named ≡ self.old.named }
         ensures table { IsTable (table_of self.new) }
     {
@@ -101,9 +92,9 @@ impl Hub {
         number: u8,
         order: &Order<'_>,
     )
-        requires ties { Ties (server self.old (N.state out.old.net) (W.told out.old.watch)) }
-        ensures ties { Ties (server self.new (N.state out.new.net) (W.told out.new.watch)) }
-        ensures serves { Serves conn.0 number (order_value order.now) (server self.old (N.state out.old.net) (W.told out.old.watch)) (server self.new (N.state out.new.net) (W.told out.new.watch)) }
+        requires ties { Ties (at N.Net W.Watch self.old out.old) }
+        ensures ties { Ties (at N.Net W.Watch self.new out.new) }
+        ensures serves { Serves self.old.config every_topic conn.0 number (order_value order.now) (at N.Net W.Watch self.old out.old) (at N.Net W.Watch self.new out.new) }
         ensures named { self.new.named ≡ self.old.named }
         ensures table { IsTable (table_of self.new) }
     {
@@ -121,15 +112,19 @@ impl Hub {
         kind: Kind,
         body: &[u8],
     )
-        requires ties { Ties (server self.old (N.state out.old.net) (W.told out.old.watch)) }
-        ensures ties { Ties (server self.new (N.state out.new.net) (W.told out.new.watch)) }
-        ensures serves { Serves conn.0 number (send to.0 kind body.now) (server self.old (N.state out.old.net) (W.told out.old.watch)) (server self.new (N.state out.new.net) (W.told out.new.watch)) }
+        requires ties { Ties (at N.Net W.Watch self.old out.old) }
+        ensures ties { Ties (at N.Net W.Watch self.new out.new) }
+        ensures serves { Serves self.old.config every_topic conn.0 number (send to.0 kind body.now) (at N.Net W.Watch self.old out.old) (at N.Net W.Watch self.new out.new) }
         ensures named { self.new.named ≡ self.old.named }
         ensures table { IsTable (table_of self.new) }
     {
-        if let Err(why) = self.send(out, to, kind, body) {
-            let order = number;
-            out.watch.note(&Note::Unserved { conn, order, why });
+        let _ = &self.table;
+        match self.send(out, to, kind, body) {
+            Ok(_) => {}
+            Err(why) => {
+                let order = number;
+                out.watch.note(&Note::Unserved { conn, order, why });
+            }
         }
     }
 

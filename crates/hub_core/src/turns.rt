@@ -6,9 +6,10 @@ ghost use Rattle.ws_kinds.specs.NoteValue as note;
 ghost use Rattle.hub_lines.specs.State.{server, entry_at};
 ghost use Rattle.hub_lines.specs.Calls.{Ties, Settled, nothing};
 ghost use Rattle.hub_notes.specs.Calls.{Appends};
-ghost use Rattle.hub_table.specs.Table.{IsTable, table_of};
-ghost use Rattle.hub_core.specs.Answers.{Makes};
-ghost use Rattle.hub_core.specs.Turns.{EndsTurn, FinishesIfEmpty};
+ghost use Rattle.hub_core.specs.At.{at};
+ghost use Rattle.hub_notes.specs.Table.{IsTable, table_of};
+ghost use Rattle.hub_notes.specs.Answers.{Makes};
+ghost use Rattle.hub_notes.specs.Turns.{EndsTurn, FinishesIfEmpty};
 
 use crate::Hub;
 use link_trait::{Net, Outside};
@@ -17,10 +18,10 @@ use ws_kinds::{Conn, Left, Note, Watch};
 impl Hub {
     /// Notes that time went by: one tick.
     pub fn tick<N: Net, W: Watch>(&mut self, out: &mut Outside<N, W>)
-        requires ties { Ties (server self.old (N.state out.old.net) (W.told out.old.watch)) }
-        ensures ties { Ties (server self.new (N.state out.new.net) (W.told out.new.watch)) }
-        ensures makes { Makes (note.tick ∷ []) (server self.old (N.state out.old.net) (W.told out.old.watch)) (server self.new (N.state out.new.net) (W.told out.new.watch)) }
-        ensures appends { Appends nothing (server self.old (N.state out.old.net) (W.told out.old.watch)) (server self.new (N.state out.new.net) (W.told out.new.watch)) }
+        requires ties { Ties (at N.Net W.Watch self.old out.old) }
+        ensures ties { Ties (at N.Net W.Watch self.new out.new) }
+        ensures makes { Makes (note.tick ∷ []) (at N.Net W.Watch self.old out.old) (at N.Net W.Watch self.new out.new) }
+        ensures appends { Appends nothing (at N.Net W.Watch self.old out.old) (at N.Net W.Watch self.new out.new) }
         ensures named { self.new.named ≡ self.old.named }
         ensures table { IsTable (table_of self.new) }
     {
@@ -31,11 +32,11 @@ impl Hub {
     /// Ends a turn: each connection in phase Ending for which nothing is held is gone, as finished, in the order of their
     /// numbers. Then the turn is noted. Nothing is pending after it, and the cork is empty.
     pub fn end_turn<N: Net, W: Watch>(&mut self, out: &mut Outside<N, W>)
-        requires ties { Ties (server self.old (N.state out.old.net) (W.told out.old.watch)) }
-        ensures ties { Ties (server self.new (N.state out.new.net) (W.told out.new.watch)) }
+        requires ties { Ties (at N.Net W.Watch self.old out.old) }
+        ensures ties { Ties (at N.Net W.Watch self.new out.new) }
         ensures settled { Settled self.new }
-        ensures ends { EndsTurn (server self.old (N.state out.old.net) (W.told out.old.watch)) (server self.new (N.state out.new.net) (W.told out.new.watch)) }
-        ensures appends { Appends nothing (server self.old (N.state out.old.net) (W.told out.old.watch)) (server self.new (N.state out.new.net) (W.told out.new.watch)) }
+        ensures ends { EndsTurn (at N.Net W.Watch self.old out.old) (at N.Net W.Watch self.new out.new) }
+        ensures appends { Appends nothing (at N.Net W.Watch self.old out.old) (at N.Net W.Watch self.new out.new) }
         ensures named { self.new.named ≡ self.old.named }
         ensures table { IsTable (table_of self.new) }
     {
@@ -45,15 +46,16 @@ impl Hub {
             self.finish(out, conn);
             after = conn;
         }
+        self.table.no_rings();
         out.watch.note(&Note::Turn);
     }
 
     /// A connection in phase Ending is gone, as finished, where nothing is held for it.
     fn finish<N: Net, W: Watch>(&mut self, out: &mut Outside<N, W>, conn: Conn)
         requires ending { (entry_at self.old conn.0).phase ≡ Ending }
-        requires ties { Ties (server self.old (N.state out.old.net) (W.told out.old.watch)) }
-        ensures ties { Ties (server self.new (N.state out.new.net) (W.told out.new.watch)) }
-        ensures finishes { FinishesIfEmpty conn.0 (server self.old (N.state out.old.net) (W.told out.old.watch)) (server self.new (N.state out.new.net) (W.told out.new.watch)) }
+        requires ties { Ties (at N.Net W.Watch self.old out.old) }
+        ensures ties { Ties (at N.Net W.Watch self.new out.new) }
+        ensures finishes { FinishesIfEmpty conn.0 (at N.Net W.Watch self.old out.old) (at N.Net W.Watch self.new out.new) }
         ensures named { self.new.named ≡ self.old.named }
         ensures table { IsTable (table_of self.new) }
     {

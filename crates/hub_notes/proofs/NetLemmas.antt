@@ -5,7 +5,7 @@ use Rattle.ws_kinds.specs.NoteValue.{NoteValue}
 use Rattle.link_trait.specs.NetState.{NetState}
 use Rattle.run_meaning.specs.Counts.{writes, taken, number_of, is_gone_in, is_gone_by_in}
 use Rattle.run_meaning.proofs.Parts.{or-assoc, writes-append, taken-append, gone-append, gone_by-append}
-use Rattle.hub_notes.specs.Noted.{is_link_failure}
+use Rattle.run_meaning.specs.Performs.{is_link_failure}
 use Rattle.hub_notes.specs.NetAfter.{TrafficAfter, NetAfter, RoseBy, FailsAfter}
 use Rattle.hub_notes.proofs.BoolLemmas.{or_left, or_right, or_false, and_true, stays_live}
 

@@ -1,11 +1,18 @@
 -- Notes one after another.
-use Rattle.std.proofs.Common.{◌≡◌, ℕ, List, [], ◌∷◌, ◌++◌, Option, Some, None, Bool, true, cond, ◌&&◌, refl, sym, ap, ◌∙◌, append-nil, append_assoc}
-use Rattle.std.specs.List.{list_all}
+use Rattle.std.proofs.Common.{◌≡◌, ℕ, List, [], ◌∷◌, ◌++◌, Option, Some, None, Bool, true, false, cond, ◌&&◌, refl, sym, ap, ◌∙◌, append-nil, append_assoc}
+use Rattle.std.specs.List.{list_all, list_any}
 use Rattle.ws_kinds.specs.NoteValue.{NoteValue}
-use Rattle.ws_kinds.specs.Watch.{IsNoted}
-use Rattle.run_meaning.specs.Notes.{is_of}
-use Rattle.run_meaning.proofs.Parts.{and-assoc, list_all-append}
-use Rattle.hub_notes.specs.Noted.{AreNoted, is_outgoing}
+use Rattle.ws_kinds.specs.Watch.{IsNoted, AreNoted}
+use Rattle.run_meaning.specs.Notes.{is_of, is_turn}
+use Rattle.run_meaning.proofs.Parts.{and-assoc, list_all-append, list_any-append}
+use Rattle.run_meaning.specs.Tell.{tell_by_all}
+use Rattle.run_meaning.proofs.TellLemmas.{all_then}
+use Rattle.hub_lines.specs.State.{HubState}
+use Rattle.hub_notes.specs.Tells.{tell_at, TellsBy}
+use Rattle.hub_notes.proofs.BoolLemmas.{or_left, or_right, and_left, and_right}
+use Rattle.run_meaning.specs.Quiet.{is_uncounted}
+use Rattle.hub_notes.specs.Quiet.{SameCounts, CountsBeside}
+use Rattle.run_meaning.specs.Performs.{is_outgoing}
 use Rattle.hub_notes.specs.Progress.{Progress, progress_after, progress_after_all, may_come, may_all_come}
 
 -- ---- what the watch is told
@@ -53,3 +60,28 @@ outgoing_then xs ys = list_all-append is_outgoing xs ys
 
 pub outgoing_both : (xs ys : List NoteValue) → list_all is_outgoing xs ≡ true → list_all is_outgoing ys ≡ true → list_all is_outgoing (xs ++ ys) ≡ true
 outgoing_both xs ys e h = outgoing_then xs ys ∙ ap (λ (z : Bool). z && list_all is_outgoing ys) e ∙ h
+
+-- ---- what stands to be told
+
+pub turnless : (xs ys : List NoteValue) → list_any is_turn (xs ++ ys) ≡ false → (list_any is_turn xs ≡ false) × (list_any is_turn ys ≡ false)
+turnless xs ys e =
+    let both = sym (list_any-append is_turn xs ys) ∙ e in
+    (or_left (list_any is_turn xs) (list_any is_turn ys) both, or_right (list_any is_turn xs) (list_any is_turn ys) both)
+
+pub tells_then : (xs ys : List NoteValue) (h k l : HubState) → TellsBy xs h k → TellsBy ys k l → TellsBy (xs ++ ys) h l
+tells_then xs ys h k l p q e c =
+    let none = turnless xs ys e in
+    q none.1 c ∙ ap (tell_by_all c ys) (p none.0 c) ∙ sym (all_then c xs ys (tell_at h c))
+
+-- ---- counts of ticks
+
+pub same_then : (h k l : HubState) → SameCounts h k → SameCounts k l → SameCounts h l
+same_then h k l p q c there = let y = q c there in let x = p c y.0 in (x.0, y.1 ∙ x.1)
+
+pub counts_then : (xs ys : List NoteValue) (h k l : HubState) → CountsBeside xs h k → CountsBeside ys k l → CountsBeside (xs ++ ys) h l
+counts_then xs ys h k l p q e =
+    let both = sym (list_all-append is_uncounted xs ys) ∙ e in
+    same_then h k l (p (and_left (list_all is_uncounted xs) (list_all is_uncounted ys) both)) (q (and_right (list_all is_uncounted xs) (list_all is_uncounted ys) both))
+
+pub same_counts : (h : HubState) → SameCounts h h
+same_counts h c there = (there, refl)

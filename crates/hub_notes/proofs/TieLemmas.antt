@@ -7,7 +7,7 @@ use Rattle.ws_kinds.specs.declared.note.Phase.{Phase}
 use Rattle.ws_kinds.specs.declared.note.Phase.TheVariants.{Head, Open, Leaving, Ending, Gone}
 use Rattle.ws_kinds.specs.NoteValue as note
 use Rattle.ws_kinds.specs.NoteValue.{NoteValue}
-use Rattle.run_meaning.specs.Notes.{is_of, is_gone}
+use Rattle.run_meaning.specs.Notes.{is_of, is_gone, is_acceptance}
 use Rattle.run_meaning.specs.Counts.{gather, accepted_by, has_number, is_accepted, is_gone_in}
 use Rattle.run_meaning.specs.Lines.{moved}
 use Rattle.run_meaning.proofs.Parts.{list_any-append}
@@ -15,8 +15,9 @@ use Rattle.run_meaning.proofs.Kept.{has_number-append}
 use Rattle.hub_lines.specs.State as hub
 use Rattle.hub_lines.specs.State.{HubState, Server, is_present, entry_at}
 use Rattle.hub_lines.specs.Calls.{Ties}
-use Rattle.hub_notes.specs.Noted.{is_outgoing, is_acceptance}
-use Rattle.hub_notes.specs.Progress.{Progress, unless_gone, progress_at, progress_by, progress_after, progress_after_all}
+use Rattle.run_meaning.specs.Performs.{is_outgoing}
+use Rattle.hub_notes.specs.Progress.{Progress, progress_at, progress_by, progress_after, progress_after_all}
+use Rattle.run_meaning.specs.Orders.{unless_gone}
 use Rattle.hub_notes.specs.Calls.{Advances, Proceeds}
 use Rattle.hub_notes.proofs.BoolLemmas.{by_cases, clash, or_left, or_right, and_left, and_right}
 

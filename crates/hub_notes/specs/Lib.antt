@@ -1,5 +1,10 @@
-pub mod Noted
 pub mod Progress
+pub mod Tells
+pub mod Quiet
 pub mod NetAfter
 pub mod Fronts
 pub mod Calls
+pub mod Serving
+pub mod Table
+pub mod Answers
+pub mod Turns

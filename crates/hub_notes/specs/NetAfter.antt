@@ -5,7 +5,7 @@ use Rattle.ws_kinds.specs.NoteValue.{NoteValue}
 use Rattle.link_trait.specs.Net.{Same, SameNet}
 use Rattle.link_trait.specs.NetState.{NetState}
 use Rattle.run_meaning.specs.Counts.{writes, taken, number_of, is_gone_in, is_gone_by_in}
-use Rattle.hub_notes.specs.Noted.{is_link_failure}
+use Rattle.run_meaning.specs.Performs.{is_link_failure}
 
 -- where the net tells: the links took what the notes say, and nothing was read
 pub record TrafficAfter (notes : List NoteValue) (old new : NetState) : Type 0 where

@@ -1,19 +1,25 @@
 //! Laws of the words. Each function says one, and does nothing.
 
-ghost use Rattle.std.specs.Prelude.{◌≡◌, ℕ, List, [], ◌∷◌, ◌++◌, Option, true, false, ◌&&◌};
+ghost use Rattle.std.specs.Prelude.{◌≡◌, ◌+◌, ℕ, List, [], ◌∷◌, ◌++◌, Option, Bool, true, false, ◌&&◌, length, if◌then◌else◌};
 ghost use Rattle.std.specs.List.{list_all, list_any};
 ghost use Rattle.ws_kinds.specs.NoteValue.{NoteValue};
-ghost use Rattle.ws_kinds.specs.Watch.{IsNoted};
+ghost use Rattle.ws_kinds.specs.Watch.{IsNoted, AreNoted};
 ghost use Rattle.wire_meaning.specs.Answer.{Item};
 ghost use Rattle.link_trait.specs.NetState.{NetState};
 ghost use Rattle.run_meaning.specs.Counts.{is_accepted, is_gone_in};
 ghost use Rattle.hub_lines.specs.State.{Server, is_present};
 ghost use Rattle.hub_lines.specs.Calls.{Keeps, Ties, nothing, then_also};
-ghost use Rattle.hub_notes.specs.Noted.{AreNoted, is_outgoing, is_acceptance};
-ghost use Rattle.hub_notes.specs.Progress.{Progress, progress_after_all, may_all_come};
+ghost use Rattle.run_meaning.specs.Notes.{is_acceptance};
+ghost use Rattle.run_meaning.specs.Performs.{is_outgoing};
+ghost use Rattle.hub_notes.specs.Progress.{Progress, progress_after_all, may_all_come, standings_at};
 ghost use Rattle.hub_notes.specs.NetAfter.{NetAfter, FailsAfter};
 ghost use Rattle.hub_notes.specs.Fronts.{KeepsFronts};
-ghost use Rattle.hub_notes.specs.Calls.{Advances, Proceeds, Appends};
+ghost use Rattle.hub_notes.specs.Calls.{Advances, Proceeds, Appends, Does};
+ghost use Rattle.hub_notes.specs.Serving.{Obeys, Serves, ServesAll};
+ghost use Rattle.ws_kinds.specs.ConfigValue.{ConfigValue};
+ghost use Rattle.ws_kinds.specs.OrderValue.{OrderValue};
+ghost use Rattle.run_meaning.specs.Lines.{is_open};
+ghost use Rattle.run_meaning.specs.Steps.{Step, by_order, of_notes, is_for, frames_of, appended_by};
 
 /// Some notes and then others are all of them, one after another: as the watch is told them, by what they make of a
 /// connection, and by the two tests. One note that is told is a list of one, and a watch that is told nothing is as it was.
@@ -74,4 +80,24 @@ pub fn ties_follow()
     ensures accepted { (notes : List NoteValue) (a b : Server) → Advances notes a b →
         ((conn : ℕ) → is_accepted conn notes ≡ true → b.net.live conn ≡ true) → Ties a → Ties b }
     ensures none { (notes : List NoteValue) (conn : ℕ) → list_any is_acceptance notes ≡ false → is_accepted conn notes ≡ false }
+{}
+
+/// Calls by their steps. Two calls one after another make the steps of both; where nothing is called, there are none. A call
+/// that makes notes and appends what they send makes these notes as steps.
+pub fn steps_of_calls()
+    ensures both { (texts : ℕ → List ℕ) (first more : List Step) (a b c : Server) → Does texts first a b → Does texts more b c → Does texts (first ++ more) a c }
+    ensures none { (texts : ℕ → List ℕ) (s : Server) → Does texts [] s s }
+    ensures notes { (texts : ℕ → List ℕ) (notes : List NoteValue) (appended : ℕ → List Item) (a b : Server) → Advances notes a b → FailsAfter notes a.net b.net → Appends appended a b →
+        ((conn : ℕ) → appended conn ≡ appended_by texts (of_notes notes) (standings_at a.hub) conn) → Does texts (of_notes notes) a b }
+{}
+
+/// Orders, one after another. An order is served where the tables change as it says and its frames are then put.
+pub fn orders_in_order()
+    ensures order { (texts : ℕ → List ℕ) (from : ℕ) (order : OrderValue) (appended : ℕ → List Item) (a b c : Server) (obeys : Obeys from order a b) (steps : Proceeds [] [] b c) → Appends appended b c →
+        ((conn : ℕ) → appended conn ≡ (if is_for from conn order (standings_at a.hub conn).topics then frames_of order else [])) →
+        ((conn : ℕ) → is_for from conn order (standings_at a.hub conn).topics ≡ true → is_open (standings_at a.hub conn).phase ≡ true) →
+        Does texts (by_order from order ∷ of_notes steps.sending) a c }
+    ensures more { (config : ConfigValue) (admits : List ℕ → Bool) (from number : ℕ) (orders : List OrderValue) (order : OrderValue) (a b c : Server) →
+        ServesAll config admits from number orders a b → Serves config admits from (number + length orders) order b c → ServesAll config admits from number (orders ++ order ∷ []) a c }
+    ensures none { (config : ConfigValue) (admits : List ℕ → Bool) (from number : ℕ) (s : Server) → ServesAll config admits from number [] s s }
 {}

@@ -6,11 +6,5 @@ pub mod MemSource
 pub mod MemSink
 pub mod StdSource
 pub mod StdSink
-pub mod Schedule
 pub mod NetState
 pub mod Net
-pub mod LinkState
-pub mod Acts
-pub mod MemNet
-pub mod MemSteps
-pub mod Caller

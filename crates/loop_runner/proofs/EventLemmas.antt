@@ -17,7 +17,7 @@ use Rattle.wire_meaning.proofs.MaskLemmas.{length-unmasked}
 use Rattle.wire_meaning.proofs.ReadingLemmas.{Shorter, front_shorter, reads_is}
 use Rattle.frame_reader.specs.declared.reader.Reader.{Reader}
 use Rattle.frame_reader.specs.declared.reader.State.{State}
-use Rattle.frame_reader.specs.declared.reader.State.TheVariants.{Before, Within, Ended}
+use Rattle.frame_reader.specs.declared.reader.State.TheVariants.{AtFrameStart, InDataFrame, Ended}
 use Rattle.frame_reader.specs.State.{begun_of, middle_of, coming}
 use Rattle.frame_reader.specs.Middle.{Middle, middle_front}
 use Rattle.frame_reader.specs.Reader.{ahead, raw_of}
@@ -171,8 +171,8 @@ middle_fits : (m : Middle) (octets : List ℕ) → Fits (middle_front m octets)
 middle_fits m octets = data_fits m.final (length (take m.left octets) == m.left) m.kind (m.all ++ unmasked m.key m.place (take m.left octets)) (drop m.left octets)
 
 coming_sound : (max : ℕ) (state : State) (all octets : List ℕ) → AreSound (coming max state all octets)
-coming_sound max (Before kind) all octets = reads_sound max (begun_of kind all) octets
-coming_sound max (Within kind frame) all octets = front_sound max (middle_front (middle_of kind frame all) octets) (middle_fits (middle_of kind frame all) octets)
+coming_sound max (AtFrameStart kind) all octets = reads_sound max (begun_of kind all) octets
+coming_sound max (InDataFrame kind frame) all octets = front_sound max (middle_front (middle_of kind frame all) octets) (middle_fits (middle_of kind frame all) octets)
 coming_sound max Ended all octets = tt
 
 -- whatever a reader tells is sound

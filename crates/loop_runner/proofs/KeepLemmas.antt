@@ -1,20 +1,34 @@
 -- What is kept from step to step.
-use Rattle.std.proofs.Common.{◌≡◌, ◌<◌, ◌-◌, ◌^◌, ℕ, List, [], ◌++◌, Option, Some, true, length, sym, ap, ◌∙◌, subst, append-nil, append_assoc}
-use Rattle.ws_kinds.specs.ConfigValue.{ConfigValue}
+use Rattle.std.proofs.Common.{◌≡◌, ◌<◌, ◌-◌, ◌^◌, ℕ, List, [], ◌++◌, Option, Some, None, true, false, length, sym, ap, ◌∙◌, subst, append-nil, append_assoc}
 use Rattle.ws_kinds.specs.NoteValue.{NoteValue}
-use Rattle.ws_kinds.specs.EventValue.{EventValue}
-use Rattle.ws_kinds.specs.OrderValue.{OrderValue}
+use Rattle.ws_kinds.specs.Watch.{AreNoted}
+use Rattle.ws_kinds.specs.declared.handler.Handler.{Ghosts as HandlerMeaning}
+use Rattle.link_trait.specs.NetState.{NetState}
+use Rattle.link_trait.specs.declared.net.NetEvent.{NetEvent}
 use Rattle.route_table.specs.Table.{RouteTable}
 use Rattle.run_meaning.specs.Server as run
-use Rattle.run_meaning.specs.Server.{served_by}
 use Rattle.run_meaning.specs.Lines.{plain}
 use Rattle.run_meaning.specs.Replies.{AreReplies}
-use Rattle.run_heard.proofs.Replying.{replies_before}
+use Rattle.run_laws.proofs.AgreeLemmas.{told_is}
+use Rattle.run_laws.proofs.Replying.{replies_before}
 use Rattle.hub_lines.specs.State.{Server}
-use Rattle.run_kept.specs.Kept.{IntakeView}
-use Rattle.loop_runner.specs.Keeps.{Grows, Holds, KeptAll, AreFew}
+use Rattle.hub_notes.specs.Table.{IsTable, table_of}
+use Rattle.hub_notes.proofs.BoolLemmas.{by_cases, clash}
+use Rattle.run_kept.specs.Kept.{IntakeView, Kept}
+use Rattle.run_kept.specs.Sounds.{AreSound}
+use Rattle.run_kept.proofs.Resting.{shut_kept}
+use Rattle.loop_runner.specs.declared.intakes.Intakes.{Intakes}
+use Rattle.loop_runner.specs.Steps.{Every, Grows}
+use Rattle.loop_runner.specs.Keeps.{Beginning, Holds, KeptAll, AreFew, AreViews, meaning_of, with_view}
+use Rattle.loop_runner.specs.Moments.{Moment, IsKeptThen, Keeps, KeepsOn, KeepsOne}
+use Rattle.loop_runner.proofs.GrowLemmas.{grows_then}
+use Rattle.loop_runner.proofs.StepLemmas.{steps_then}
+use Rattle.loop_runner.proofs.ViewLemmas.{with_here, with_same, with_twice, views_of, are_views_of}
 
-pub few_before : {S : Type 0} (r : run.Server S) (ns later ms : List NoteValue) → ms ≡ ns ++ later → AreFew r ms → AreFew r ns
+pub same_notes : (xs ys : List NoteValue) → Some xs ≡ Some ys → xs ≡ ys
+same_notes xs ys e = cc
+
+few_before : {S : Type 0} (r : run.Server S) (ns later ms : List NoteValue) → ms ≡ ns ++ later → AreFew r ms → AreFew r ns
 few_before r ns later ms whole few = λ front behind is c.
     few front (behind ++ later) (whole ∙ ap (λ (z : List NoteValue). z ++ later) is ∙ append_assoc front behind later) c
 
@@ -22,43 +36,81 @@ few_before r ns later ms whole few = λ front behind is c.
 pub few_of : {S : Type 0} (r : run.Server S) (ns : List NoteValue) → AreFew r ns → (c : ℕ) → length (plain r ns c) < 2 ^ 64 - 1
 few_of r ns few = few ns [] (sym (append-nil ns))
 
-module _ {S : Type 0} (start : S) (after : S → EventValue → S) (said : S → EventValue → List OrderValue) (config : ConfigValue) (table : RouteTable) where
+-- the notes of an earlier server, and that these texts of replies agree with its judging too
+pub record Earlier {S : Type 0} (b : Beginning S) (replies : ℕ → List ℕ) (ms : List NoteValue) (a : Server) : Type 0 where
+  pub notes : List NoteValue
+  pub later : List NoteValue
+  pub told : a.told ≡ Some notes
+  pub all : ms ≡ notes ++ later
+  pub tells : a.net.tells ≡ true
+  pub agree : AreReplies b.table notes a.net.given replies
+  pub few : AreFew (meaning_of b replies) notes
+
+module _ {S : Type 0} (b : Beginning S) where
+  pub earlier : (a d : Server) → Grows a d → (replies : ℕ → List ℕ) (ms : List NoteValue) → d.told ≡ Some ms → d.net.tells ≡ true → AreReplies b.table ms d.net.given replies → AreFew (meaning_of b replies) ms → Earlier b replies ms a
+  earlier a d grows replies ms told tells agree few =
+      let v = grows.told ms told in
+      let was : a.net.tells ≡ true = sym grows.tells ∙ tells in
+      record {
+        notes = v.0;
+        later = v.1;
+        told = v.2;
+        all = v.3;
+        tells = was;
+        agree = replies_before b.table v.0 v.1 a.net.given d.net.given replies (subst (λ (z : List NoteValue). AreReplies b.table z d.net.given replies) v.3 agree) (grows.given was);
+        few = few_before (meaning_of b replies) v.0 v.1 ms v.3 few;
+      }
+
   -- what holds for notes and replies goes on to hold for those of a later server
-  pub keep_on : (a b : Server) (now next : S) (views later : ℕ → IntakeView) (reading then : Option ℕ) → Grows a b
-      → ((replies : ℕ → List ℕ) (ns ms : List NoteValue) → a.told ≡ Some ns → a.net.tells ≡ true → b.told ≡ Some ms → AreReplies table ms b.net.given replies
-      → Holds start after said replies config table ns a now views reading → Holds start after said replies config table ms b next later then)
-      → KeptAll start after said config table a now views reading → KeptAll start after said config table b next later then
-  keep_on a b now next views later reading then grows step old ms told tells replies agree few =
-      let before = grows.told ms told in
-      let was : a.net.tells ≡ true = sym grows.tells ∙ tells in
-      step replies before.0 ms before.2 was told agree
-      (old before.0 before.2 was replies
-      (replies_before table before.0 before.1 a.net.given b.net.given replies (subst (λ (z : List NoteValue). AreReplies table z b.net.given replies) before.3 agree) (grows.given was))
-      (few_before (served_by start after said replies) before.0 before.1 ms before.3 few))
+  pub keep_on : (a d : Server) (now next : S) (views later : ℕ → IntakeView) (from to : Option ℕ) → Grows a d
+      → ((replies : ℕ → List ℕ) (ns ms : List NoteValue) → a.told ≡ Some ns → a.net.tells ≡ true → d.told ≡ Some ms → AreReplies b.table ms d.net.given replies → AreFew (meaning_of b replies) ns
+      → Holds b replies ns a now views from → Holds b replies ms d next later to)
+      → KeptAll b a now views from → KeptAll b d next later to
+  keep_on a d now next views later from to grows step old ms told tells replies agree few =
+      let x = earlier a d grows replies ms told tells agree few in
+      step replies x.notes ms x.told x.tells told agree x.few (old x.notes x.told x.tells replies x.agree x.few)
 
-  -- the same, where the step asks that items are few
-  pub keep_few : (a b : Server) (now next : S) (views later : ℕ → IntakeView) (reading then : Option ℕ) → Grows a b
-      → ((replies : ℕ → List ℕ) (ns ms : List NoteValue) → a.told ≡ Some ns → a.net.tells ≡ true → b.told ≡ Some ms → AreFew (served_by start after said replies) ns
-      → Holds start after said replies config table ns a now views reading → Holds start after said replies config table ms b next later then)
-      → KeptAll start after said config table a now views reading → KeptAll start after said config table b next later then
-  keep_few a b now next views later reading then grows step old ms told tells replies agree few =
-      let before = grows.told ms told in
-      let was : a.net.tells ≡ true = sym grows.tells ∙ tells in
-      let were = few_before (served_by start after said replies) before.0 before.1 ms before.3 few in
-      step replies before.0 ms before.2 was told were
-      (old before.0 before.2 was replies
-      (replies_before table before.0 before.1 a.net.given b.net.given replies (subst (λ (z : List NoteValue). AreReplies table z b.net.given replies) before.3 agree) (grows.given was))
-      were)
+  -- the same, where it is known what was noted
+  pub keep_notes : (made : List NoteValue) (a d : Server) (now next : S) (views later : ℕ → IntakeView) (from to : Option ℕ) → Grows a d → AreNoted a.told made d.told → IsTable (table_of d.hub)
+      → ((replies : ℕ → List ℕ) (ns ms : List NoteValue) → a.net.tells ≡ true → d.told ≡ Some ms → Holds b replies ns a now views from
+      → Kept (meaning_of b replies) b.config b.table (ns ++ made) d next later to × AreSound (meaning_of b replies) b.config (ns ++ made))
+      → KeptAll b a now views from → KeptAll b d next later to
+  keep_notes made a d now next views later from to grows noted whole step = keep_on a d now next views later from to grows
+      (λ replies ns ms was tells told agree few old.
+      let is : ns ++ made ≡ ms = same_notes (ns ++ made) ms (sym (told_is ns made ms a.told d.told noted was told) ∙ told) in
+      let got = step replies ns ms tells told old in
+      subst (λ (z : List NoteValue). Holds b replies z d next later to) is (record { kept = got.0; sound = got.1; whole = whole }))
 
-  -- what was kept of an earlier server, for notes and replies of a later one
-  pub kept_before : (a b : Server) (now : S) (views : ℕ → IntakeView) (reading : Option ℕ) → Grows a b → KeptAll start after said config table a now views reading
-      → (replies : ℕ → List ℕ) (ms : List NoteValue) → b.told ≡ Some ms → b.net.tells ≡ true → AreReplies table ms b.net.given replies → AreFew (served_by start after said replies) ms
-      → (ns : List NoteValue) × Holds start after said replies config table ns a now views reading
-  kept_before a b now views reading grows old replies ms told tells agree few =
-      let before = grows.told ms told in
-      let was : a.net.tells ≡ true = sym grows.tells ∙ tells in (
-        before.0,
-        old before.0 before.2 was replies
-            (replies_before table before.0 before.1 a.net.given b.net.given replies (subst (λ (z : List NoteValue). AreReplies table z b.net.given replies) before.3 agree) (grows.given was))
-            (few_before (served_by start after said replies) before.0 before.1 ms before.3 few),
-      )
+  -- views of the intakes that are the same
+  pub keep_views : (s : Server) (now : S) (views later : ℕ → IntakeView) (reading : Option ℕ) → ((conn : ℕ) → later conn ≡ views conn) → KeptAll b s now views reading → KeptAll b s now later reading
+  keep_views s now views later reading same old ns told tells replies agree few =
+      let x = old ns told tells replies agree few in
+      record { kept = shut_kept (meaning_of b replies) b.config b.table ns s now views later reading x.kept (λ c _. same c); sound = x.sound; whole = x.whole }
+
+  -- of one connection, one step after another
+  pub keep_one_same : (c : ℕ) (reading : Option ℕ) (view : IntakeView) (s : Server) (now : S) → KeepsOne b c reading reading view view s now s now
+  keep_one_same c reading view s now = record { kept = λ views is. keep_views s now views (with_view c view views) reading (with_same c view views is) }
+
+  pub keep_one_then : (c : ℕ) (from mid to : Option ℕ) (u v w : IntakeView) (s t d : Server) (x y z : S) → KeepsOne b c from mid u v s x t y → KeepsOne b c mid to v w t y d z → KeepsOne b c from to u w s x d z
+  keep_one_then c from mid to u v w s t d x y z first second = record {
+    kept = λ views is old.
+        keep_views d z (with_view c w (with_view c v views)) (with_view c w views) to (with_twice c v w views) (second.kept (with_view c v views) (with_here c v views) (first.kept views is old));
+  }
+
+-- ---- within a turn
+
+pub keeps_then : {H : Type 0} {handler : HandlerMeaning H} (table : RouteTable) (r s t : Intakes) (a b d : Moment handler) → Keeps table r s a b → Keeps table s t b d → Keeps table r t a d
+keeps_then table r s t a b d x y start config views are k = let now = x start config views are k in y start config now.0 now.1 now.2
+
+pub keeps_on_then : {H : Type 0} {handler : HandlerMeaning H} (r s t : Intakes) (a b d : Moment handler) → KeepsOn r s a b → KeepsOn s t b d → KeepsOn r t a d
+keeps_on_then r s t a b d x y = record {
+  running = y.running;
+  steps = steps_then Every a.server b.server d.server x.steps y.steps;
+  kept = λ table. keeps_then table r s t a b d (x.kept table) (y.kept table);
+}
+
+-- where the net does not tell, nothing is said
+pub where_told : {H : Type 0} {handler : HandlerMeaning H} (b : Beginning handler.State) (before : NetState) (intakes : Intakes) (m : Moment handler) (vs : ℕ → IntakeView) → m.server.net.tells ≡ before.tells
+    → (before.tells ≡ true → IsKeptThen intakes m b) → IsKeptThen intakes m b
+where_told b before intakes m vs same told = by_cases before.tells told
+    (λ (no : before.tells ≡ false). (views_of intakes vs, are_views_of intakes vs, λ notes is tells. clash before.tells no (sym same ∙ tells)))

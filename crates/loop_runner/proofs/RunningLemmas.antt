@@ -1,50 +1,51 @@
 -- What holds within a turn, step after step.
-use Rattle.std.proofs.Common.{◌≡◌, ◌≢◌, ◌≤◌, ◌<◌, ◌-◌, ◌^◌, inl, inr, ⊎_elim, ℕ, List, [], ◌∷◌, Option, Some, None, Bool, true, false, cond, not, is_some, ◌||◌, refl, sym, ap, ◌∙◌, subst, arith}
-use Rattle.std.specs.Prelude.{IsSome}
+use Rattle.std.proofs.Common.{◌≡◌, ◌≢◌, ◌≤◌, ◌<◌, ◌-◌, ◌^◌, inl, inr, ⊎_elim, ℕ, List, [], Option, Some, None, Bool, true, false, is_some, refl, sym, ap, ◌∙◌, subst, arith}
 use Rattle.std.proofs.lemmas.Bool.{cases_eq}
-use Rattle.std.proofs.lemmas.Bool.Decides.{nat_tests}
-use Rattle.std.specs.Ordering.{nat_cmp}
-use Rattle.std.specs.BTreeMap.{is_at, WritesThrough}
-use Rattle.ws_kinds.specs.declared.note.Left.{Left}
 use Rattle.ws_kinds.specs.declared.note.Phase.{Phase}
 use Rattle.ws_kinds.specs.declared.note.Phase.TheVariants.{Head, Open, Leaving, Ending, Gone}
-use Rattle.ws_kinds.specs.NoteValue as note
 use Rattle.ws_kinds.specs.NoteValue.{NoteValue}
 use Rattle.link_trait.specs.NetState.{NetState}
-use Rattle.link_trait.specs.Link.{Rose}
-use Rattle.link_trait.specs.Net.{Reads, CountsNetReadFaults}
-use Rattle.link_trait.specs.declared.net.NetRead.{NetRead}
-use Rattle.link_trait.specs.declared.net.NetRead.TheVariants as read
-use Rattle.run_meaning.specs.Lines.{moved}
+use Rattle.link_trait.specs.Net.{Frees}
 use Rattle.run_meaning.specs.Settled.{is_reading}
 use Rattle.frame_reader.specs.declared.reader.Reader.{Reader}
 use Rattle.frame_reader.specs.Reader as reader
-use Rattle.hub_lines.specs.State.{HubState, Server, server, is_gone, phase_at, entry_at}
-use Rattle.hub_notes.specs.Progress.{Progress, unless_gone, due_at, progress_at, progress_by}
-use Rattle.hub_notes.specs.Calls.{Advances}
+use Rattle.hub_lines.specs.State.{HubState, Server, server, has_entry, phase_at, ring_at}
+use Rattle.hub_lines.specs.Calls.{Settled}
+use Rattle.hub_notes.specs.Table.{IsTable, table_of}
 use Rattle.hub_notes.proofs.BoolLemmas.{by_cases, clash}
-use Rattle.hub_core.specs.Answers.{Makes}
-use Rattle.hub_core.proofs.CallLemmas.{of_here}
-use Rattle.run_kept.proofs.EndLemmas.{there_same}
 use Rattle.loop_runner.specs.declared.intakes.Intake.{Intake}
 use Rattle.loop_runner.specs.declared.intakes.Intakes.{Intakes}
-use Rattle.loop_runner.specs.Intakes.{max_of, intake_at, is_admitted}
-use Rattle.loop_runner.specs.Ready.{IsTaken, IsAsked}
-use Rattle.loop_runner.specs.Steps.{Every, But, Rises, Steps, Running, is_kept_at}
-use Rattle.loop_runner.proofs.ProgressLemmas.{reads_after, reading_at}
-use Rattle.loop_runner.proofs.HeadLemmas.{taken_away}
+use Rattle.loop_runner.specs.Intakes.{max_of, intake_at, is_admitted, ChangesIntake, SameIntakes}
+use Rattle.loop_runner.specs.Ready.{IsTaken, IsAsked, Ready}
+use Rattle.loop_runner.specs.Steps.{Every, But, StaysOrLeaves, Steps, Takes, Running, is_kept_at}
+use Rattle.loop_runner.proofs.ProgressLemmas.{read_kept}
+use Rattle.loop_runner.proofs.ViewLemmas.{Written}
+
+-- ---- what was taken, in the phase afterwards
+
+-- of a connection that is not read nothing is asked
+pub taken_away : (phase : Option Phase) (r : Reader) → is_reading phase ≡ false → IsTaken phase r
+taken_away None r e = tt {0}
+taken_away (Some Head) r e = clash true e refl
+taken_away (Some Open) r e = clash true e refl
+taken_away (Some Leaving) r e = clash true e refl
+taken_away (Some Ending) r e = tt {0}
+taken_away (Some Gone) r e = tt {0}
+
+taken_stays : (from to : Option Phase) (r : Reader) → StaysOrLeaves from to → IsTaken from r → IsTaken to r
+taken_stays from to r (inl same) t = subst (λ (z : Option Phase). IsTaken z r) (sym same) t
+taken_stays from to r (inr left) t = subst (λ (z : Option Phase). IsTaken z r) (sym left.1) (subst (λ (z : Option Phase). IsTaken z r) left.0 t)
+
+taken_as : (from to : Option Phase) (r : Reader) → (is_reading to ≡ true → StaysOrLeaves from to) → IsTaken from r → IsTaken to r
+taken_as from to r same t = by_cases (is_reading to) (λ reads. taken_stays from to r (same reads) t) (taken_away to r)
 
 -- ---- one step
-
-pub taken_as : (from to : Option Phase) (r : Reader) → (is_reading to ≡ true → to ≡ from) → IsTaken from r → IsTaken to r
-taken_as from to r same t = by_cases (is_reading to)
-    (λ reads. subst (λ (z : Option Phase). IsTaken z r) (sym (same reads)) t)
-    (λ away. taken_away to r away)
 
 pub running_steps : (P : ℕ → Type 0) (intakes : Intakes) (a b : Server) → Running P intakes a → Steps P a b → Running P intakes b
 running_steps P intakes a b x s = record {
   max = ap (λ z. z.max_message) s.config ∙ x.max;
   kept = λ c k. x.kept c (s.kept c k);
+  table = s.table x.table;
   ties = s.ties x.ties;
   named = subst (λ (z : ℕ). z ≤ b.net.named) (sym s.named) (subst (λ (z : ℕ). a.hub.named ≤ z) (sym s.net_named) x.named);
   short = s.short x.short;
@@ -54,12 +55,15 @@ running_steps P intakes a b x s = record {
   taken = λ c p intake at. taken_as (phase_at a.hub c) (phase_at b.hub c) intake.reader (s.phase c p) (x.taken c p intake at);
 }
 
+-- ---- one connection that was read
+
 -- what holds of all but one, and of that one too
-pub running_all : (conn : ℕ) (intakes : Intakes) (s : Server) → Running (But conn) intakes s → IsAsked conn s
+running_all : (conn : ℕ) (intakes : Intakes) (s : Server) → Running (But conn) intakes s → IsAsked conn s
     → ((intake : Intake) → intake_at intakes conn ≡ Some intake → IsTaken (phase_at s.hub conn) intake.reader) → Running Every intakes s
 running_all conn intakes s x asked taken = record {
   max = x.max;
   kept = x.kept;
+  table = x.table;
   ties = x.ties;
   named = x.named;
   short = x.short;
@@ -71,154 +75,126 @@ running_all conn intakes s x asked taken = record {
       (λ (ne : c ≡ conn → ⊥). x.taken c ne intake at) (cases_eq c conn);
 }
 
-pub running_but : (conn : ℕ) (intakes : Intakes) (s : Server) → Running Every intakes s → Running (But conn) intakes s
-running_but conn intakes s x = record {
-  max = x.max;
-  kept = x.kept;
-  ties = x.ties;
-  named = x.named;
-  short = x.short;
-  waits = x.waits;
-  readers = x.readers;
-  asked = λ c _. x.asked c (tt {0});
-  taken = λ c _. x.taken c (tt {0});
-}
-
 -- of a connection that is not read nothing more is asked
 pub running_away : (conn : ℕ) (intakes : Intakes) (s : Server) → Running (But conn) intakes s → is_reading (phase_at s.hub conn) ≡ false → Running Every intakes s
 running_away conn intakes s x away =
     running_all conn intakes s x (λ r. clash (is_reading (phase_at s.hub conn)) away r) (λ intake at. taken_away (phase_at s.hub conn) intake.reader away)
 
--- ---- an intake that changed
+-- a connection without an intake is not read
+pub unread_away : (P : ℕ → Type 0) (conn : ℕ) (intakes : Intakes) (s : Server) → Running P intakes s → intake_at intakes conn ≡ None → is_reading (phase_at s.hub conn) ≡ false
+unread_away P conn intakes s x none = by_cases (is_reading (phase_at s.hub conn))
+    (λ r. clash (is_admitted intakes conn) (ap is_some none) (x.kept conn (read_kept s.hub conn r)))
+    (λ away. away)
 
-other_key : (conn other : ℕ) → other ≢ conn → is_at (nat_cmp conn) other ≡ false
-other_key conn other ne = grind (arith, nat_tests)
+-- ---- other intakes
 
-some_is : {A : Type 0} (x : Option A) (y : A) → x ≡ Some y → IsSome x
-some_is x y e = subst IsSome (sym e) refl
+-- each of them was there
+running_fewer : (P : ℕ → Type 0) (old new : Intakes) (s : Server) → Running P old s → max_of new ≡ max_of old → ((c : ℕ) → is_kept_at s.hub c ≡ true → is_admitted new c ≡ true)
+    → ((c : ℕ) (intake : Intake) → intake_at new c ≡ Some intake → intake_at old c ≡ Some intake) → Running P new s
+running_fewer P old new s x max kept was = record {
+  max = x.max ∙ sym max;
+  kept = kept;
+  table = x.table;
+  ties = x.ties;
+  named = x.named;
+  short = x.short;
+  waits = x.waits;
+  readers = λ c intake at. x.readers c intake (was c intake at) ∙ sym max;
+  asked = x.asked;
+  taken = λ c p intake at. x.taken c p intake (was c intake at);
+}
 
-same_some : {A : Type 0} (x y : A) → Some x ≡ Some y → x ≡ y
+pub running_same : (P : ℕ → Type 0) (old new : Intakes) (s : Server) → Running P old s → SameIntakes old new → Running P new s
+running_same P old new s x same = running_fewer P old new s x same.max (λ c k. ap is_some (same.all c) ∙ x.kept c k) (λ c intake at. sym (same.all c) ∙ at)
+
+none_some : (x : Option Intake) (i : Intake) → x ≡ None → x ≡ Some i → ⊥
+none_some x i n s = let z : None ≡ Some i = sym n ∙ s in absurd cc
+
+-- the intake of a connection that is no entry was shut
+pub running_shut : (conn : ℕ) (old new : Intakes) (s : Server) → Running Every old s → ChangesIntake conn old new → intake_at new conn ≡ None → is_kept_at s.hub conn ≡ false → Running Every new s
+running_shut conn old new s x change none away = running_fewer Every old new s x change.max
+    (λ c k. ⊎_elim
+    (λ (same : c ≡ conn). clash (is_kept_at s.hub conn) away (ap (is_kept_at s.hub) (sym same) ∙ k))
+    (λ (ne : c ≡ conn → ⊥). ap is_some (change.others c ne) ∙ x.kept c k) (cases_eq c conn))
+    (λ c intake at. ⊎_elim
+    (λ (same : c ≡ conn). absurd (none_some (intake_at new conn) intake none (ap (intake_at new) (sym same) ∙ at)))
+    (λ (ne : c ≡ conn → ⊥). sym (change.others c ne) ∙ at) (cases_eq c conn))
+
+-- each connection that is no entry was shut
+pub running_tidied : (P : ℕ → Type 0) (old new : Intakes) (s : Server) → Running P old s → ((c : ℕ) → has_entry s.hub.entries c ≡ is_admitted new c) → max_of new ≡ max_of old
+    → ((c : ℕ) → has_entry s.hub.entries c ≡ true → intake_at new c ≡ intake_at old c) → Running P new s
+running_tidied P old new s x exact max same = running_fewer P old new s x max (λ c k. sym (exact c) ∙ x.table.kept c ∙ k) (λ c intake at. sym (same c (exact c ∙ ap is_some at)) ∙ at)
+
+same_some : (x y : Intake) → Some x ≡ Some y → x ≡ y
 same_some x y e = cc
 
-some_admitted : (x : Option Intake) (y : Intake) → x ≡ Some y → is_some x ≡ true
-some_admitted x y e = ap is_some e
-
--- one intake was written, and its connection's part holds
-pub running_written : (conn : ℕ) (old new : Intakes) (was now : Intake) (s : Server) → Running (But conn) old s → max_of new ≡ max_of old → WritesThrough nat_cmp (nat_cmp conn) old.all now new.all
-    → intake_at old conn ≡ Some was → reader.max_of now.reader ≡ reader.max_of was.reader → IsAsked conn s → IsTaken (phase_at s.hub conn) now.reader → Running Every new s
-running_written conn old new was now s x max written at same asked taken =
-    let updates = written.3 (some_is (intake_at old conn) was at) in
-    let here : intake_at new conn ≡ Some now = updates.1 in
-    let there : (other : ℕ) → other ≢ conn → intake_at new other ≡ intake_at old other = λ other ne. updates.2 other (other_key conn other ne) in
-    running_all conn new s
+-- one intake was written, and octets of its connection were taken
+pub running_written : (conn : ℕ) (old new : Intakes) (was now : Intake) (a b : Server) → Running (But conn) old a → Takes conn was.reader now.reader a b → max_of new ≡ max_of old → Written conn now old new
+    → intake_at old conn ≡ Some was → Running Every new b
+running_written conn old new was now a b before t max w at =
+    let x = running_steps (But conn) old a b before t.steps in
+    running_all conn new b
     (record {
       max = x.max ∙ sym max;
       kept = λ c k. ⊎_elim
-          (λ (e : c ≡ conn). some_admitted (intake_at new c) now (ap (intake_at new) e ∙ here))
-          (λ (ne : c ≡ conn → ⊥). ap is_some (there c ne) ∙ x.kept c k) (cases_eq c conn);
+          (λ (e : c ≡ conn). ap is_some (ap (intake_at new) e ∙ w.here))
+          (λ (ne : c ≡ conn → ⊥). ap is_some (w.others c ne) ∙ x.kept c k) (cases_eq c conn);
+      table = x.table;
       ties = x.ties;
       named = x.named;
       short = x.short;
       waits = x.waits;
       readers = λ c intake is. ⊎_elim
-          (λ (e : c ≡ conn). ap (λ (z : Intake). reader.max_of z.reader) (same_some intake now (sym is ∙ ap (intake_at new) e ∙ here)) ∙ same ∙ x.readers conn was at ∙ sym max)
-          (λ (ne : c ≡ conn → ⊥). x.readers c intake (sym (there c ne) ∙ is) ∙ sym max) (cases_eq c conn);
+          (λ (e : c ≡ conn). ap (λ (z : Intake). reader.max_of z.reader) (same_some intake now (sym is ∙ ap (intake_at new) e ∙ w.here)) ∙ t.max ∙ x.readers conn was at ∙ sym max)
+          (λ (ne : c ≡ conn → ⊥). x.readers c intake (sym (w.others c ne) ∙ is) ∙ sym max) (cases_eq c conn);
       asked = x.asked;
-      taken = λ c ne intake is. x.taken c ne intake (sym (there c ne) ∙ is);
+      taken = λ c ne intake is. x.taken c ne intake (sym (w.others c ne) ∙ is);
     })
-    asked
-    (λ intake is. subst (λ (z : Intake). IsTaken (phase_at s.hub conn) z.reader) (same_some now intake (sym here ∙ is)) taken)
+    t.asked
+    (λ intake is. subst (λ (z : Intake). IsTaken (phase_at b.hub conn) z.reader) (same_some now intake (sym w.here ∙ is)) t.taken)
 
--- a connection that is read is admitted
-reads_kept : (phase : Phase) (due : Bool) → is_reading (unless_gone (Some phase)) ≡ true → (not (is_gone phase) || due) ≡ true
-reads_kept Head due r = refl
-reads_kept Open due r = refl
-reads_kept Leaving due r = refl
-reads_kept Ending due r = refl
-reads_kept Gone due r = clash false refl r
-
-pub read_kept : (h : HubState) (c : ℕ) → is_reading (phase_at h c) ≡ true → is_kept_at h c ≡ true
-read_kept h c r = reads_kept (entry_at h c).phase (is_some (due_at h c)) (sym (reading_at h c) ∙ r)
-
-none_admitted : (x : Option Intake) → x ≡ None → is_some x ≡ false
-none_admitted x e = ap is_some e
-
--- so one that is not admitted is not read
-pub unread_away : (P : ℕ → Type 0) (conn : ℕ) (intakes : Intakes) (s : Server) → Running P intakes s → intake_at intakes conn ≡ None → is_reading (phase_at s.hub conn) ≡ false
-unread_away P conn intakes s x none = by_cases (is_reading (phase_at s.hub conn))
-    (λ r. clash (is_admitted intakes conn) (none_admitted (intake_at intakes conn) none) (x.kept conn (read_kept s.hub conn r)))
-    (λ away. away)
-
--- ---- a read
-
-rises_rose : (a b : ℕ) → Rose a b → Rises a b
-rises_rose a b r = ⊎_elim (λ (more : a < b). inl (omega arith)) (λ (most : b ≡ 2 ^ 64 - 1). inr (omega arith)) r
-
-rises_is : (a b : ℕ) → b ≡ a → Rises a b
-rises_is a b e = inl (omega arith)
-
-read_rises : (result : NetRead) (a b : ℕ) → CountsNetReadFaults result a b → Rises a b
-read_rises (read.Octets n) a b e = rises_is a b e
-read_rises read.End a b e = rises_is a b e
-read_rises read.Later a b e = rises_is a b e
-read_rises read.Failed a b e = rises_rose a b e
-
-pub steps_read : (conn : ℕ) (space : List ℕ) (result : NetRead) (h : HubState) (a b : NetState) (t : Option (List NoteValue)) → Reads conn space result a b → Steps (But conn) (server h a t) (server h b t)
-steps_read conn space result h a b t x = record {
-  config = refl;
-  named = refl;
-  net_named = x.named;
-  room = x.room;
-  tells = x.net.tells;
-  passed = λ told. (x.told told).passed;
-  faults = read_rises result a.faults b.faults x.faults;
-  ties = λ ties c there. x.live c ∙ ties c there;
-  short = λ short. short;
-  waits = λ waits c there some. x.writable c ∙ waits c there some;
-  there = there_same (server h a t) b x.live;
-  kept = λ c k. k;
-  reading = λ c r. r;
-  due = λ c ne r. x.due_elsewhere c ne;
-  phase = λ c p r. refl;
-  weight = λ c p. omega arith;
+-- octets can be sent again, and nothing is in a ring
+pub running_freed : (conn : ℕ) (intakes : Intakes) (h : HubState) (a b : NetState) (t : Option (List NoteValue)) → Running Every intakes (server h a t) → Frees conn a b → ((c : ℕ) → ring_at h c ≡ []) → Running Every intakes (server h b t)
+running_freed conn intakes h a b t x n none = record {
+  max = x.max;
+  kept = x.kept;
+  table = x.table;
+  ties = λ c there. n.live c ∙ x.ties c there;
+  named = subst (λ (z : ℕ). h.named ≤ z) (sym n.named) x.named;
+  short = x.short;
+  waits = λ c there some. absurd (some (none c));
+  readers = x.readers;
+  asked = λ c p r. n.due c ∙ x.asked c p r;
+  taken = x.taken;
 }
 
--- ---- a connection is gone
+-- ---- how a turn begins and ends
 
-abbrev phase_of : Progress → Option Phase
-phase_of p = p.phase
+pub running_begun : (intakes : Intakes) (s : Server) → Ready intakes s → Running Every intakes s
+running_begun intakes s x = record {
+  max = x.max;
+  kept = λ c k. sym (x.entries c) ∙ x.table.kept c ∙ k;
+  table = x.table;
+  ties = x.ties;
+  named = x.named;
+  short = x.short;
+  waits = x.waits;
+  readers = x.readers;
+  asked = λ c _. x.asked c;
+  taken = λ c _. x.taken c;
+}
 
-gone_phase : (phase : Option Phase) (c : ℕ) (left : Left) → is_reading (unless_gone (moved phase (note.gone c left))) ≡ false
-gone_phase None c left = refl
-gone_phase (Some Head) c left = refl
-gone_phase (Some Open) c left = refl
-gone_phase (Some Leaving) c left = refl
-gone_phase (Some Ending) c left = refl
-gone_phase (Some Gone) c left = refl
-
-pub gone_away : (c : ℕ) (left : Left) (a b : Server) → Advances (note.gone c left ∷ []) a b → is_reading (phase_at b.hub c) ≡ false
-gone_away c left a b x =
-    let p = progress_at a.hub c in
-    let n = note.gone c left in
-    reading_at b.hub c ∙ ap (λ (z : Progress). is_reading z.phase) (x.progress c)
-    ∙ ap (λ (z : Bool). is_reading (phase_of (cond z (progress_by n p) p))) (of_here c) ∙ gone_phase p.phase c left
-
--- ---- octets were given
-
-given_phase : (phase : Option Phase) (c n : ℕ) → is_reading phase ≡ true → unless_gone (moved phase (note.given c n)) ≡ phase
-given_phase None c n r = refl
-given_phase (Some Head) c n r = refl
-given_phase (Some Open) c n r = refl
-given_phase (Some Leaving) c n r = refl
-given_phase (Some Ending) c n r = refl
-given_phase (Some Gone) c n r = clash false refl r
-
-pub given_same : (c n : ℕ) (a b : Server) → Makes (note.given c n ∷ []) a b → is_reading (phase_at a.hub c) ≡ true → phase_at b.hub c ≡ phase_at a.hub c
-given_same c n a b x r =
-    let p = progress_at a.hub c in
-    let this = note.given c n in
-    let reads : is_reading p.phase ≡ true = sym (reading_at a.hub c) ∙ r in
-    let after : is_reading (progress_at b.hub c).phase ≡ true =
-    ap (λ (z : Progress). is_reading z.phase) (x.advances.progress c) ∙ ap (λ (z : Bool). is_reading (phase_of (cond z (progress_by this p) p))) (of_here c)
-    ∙ ap is_reading (given_phase p.phase c n reads) ∙ reads in
-    reads_after c (this ∷ []) a.hub b.hub (x.advances.progress c) refl refl (reading_at b.hub c ∙ after)
+pub ready_of : (intakes : Intakes) (s : Server) → Running Every intakes s → ((c : ℕ) → has_entry s.hub.entries c ≡ is_admitted intakes c) → Settled s.hub → Ready intakes s
+ready_of intakes s x exact settled = record {
+  max = x.max;
+  entries = exact;
+  table = x.table;
+  ties = x.ties;
+  named = x.named;
+  settled = settled;
+  short = x.short;
+  waits = x.waits;
+  asked = λ c. x.asked c (tt {0});
+  readers = x.readers;
+  taken = λ c. x.taken c (tt {0});
+}

@@ -1,32 +1,26 @@
 -- What was heard at the end of each turn, as turns end.
 use Rattle.std.proofs.Common.{◌≡◌, ◌<◌, ◌^◌, ◌-◌, ℕ, List, [], ◌∷◌, ◌++◌, Option, Some, None, Bool, true, false, ◌||◌, length, refl, sym, ap, ◌∙◌, subst, append_assoc}
 use Rattle.std.specs.List.{list_any, list_all}
-use Rattle.ws_kinds.specs.ConfigValue.{ConfigValue}
 use Rattle.ws_kinds.specs.NoteValue as note
 use Rattle.ws_kinds.specs.NoteValue.{NoteValue}
-use Rattle.ws_kinds.specs.EventValue.{EventValue}
-use Rattle.ws_kinds.specs.OrderValue.{OrderValue}
+use Rattle.ws_kinds.specs.Watch.{AreNoted}
 use Rattle.link_trait.specs.Net.{is_rest}
 use Rattle.link_trait.specs.declared.net.NetEvent.{NetEvent}
-use Rattle.route_table.specs.Table.{RouteTable}
-use Rattle.run_meaning.specs.Server.{served_by}
 use Rattle.run_meaning.specs.Life.{LivedThroughout}
 use Rattle.run_meaning.specs.Right.{Right}
-use Rattle.run_meaning.specs.Replies.{AreReplies}
-use Rattle.run_heard.proofs.Replying.{replies_before}
 use Rattle.hub_lines.specs.State.{Server}
-use Rattle.hub_notes.specs.Noted.{AreNoted}
+use Rattle.hub_notes.specs.Turns.{EndsTurn, finishes}
 use Rattle.hub_notes.proofs.BoolLemmas.{and_left, and_right}
-use Rattle.hub_core.specs.Turns.{EndsTurn, finishes}
 use Rattle.run_kept.specs.Kept.{IntakeView}
 use Rattle.run_kept.specs.Ends.{backlog_at}
 use Rattle.run_kept.proofs.ThroughoutLemmas.{lived_through_turn}
 use Rattle.loop_runner.specs.declared.turn.Turned.{Turned}
 use Rattle.loop_runner.specs.declared.turn.Turned.TheVariants as turned
 use Rattle.loop_runner.specs.Turns.{is_between, ending, PassesTurn}
-use Rattle.loop_runner.specs.Keeps.{Grows, KeptAll, IsRight, IsLivedThroughout, EndsWithTurn}
-use Rattle.loop_runner.proofs.KeepLemmas.{few_before}
+use Rattle.loop_runner.specs.Steps.{Grows}
+use Rattle.loop_runner.specs.Keeps.{Beginning, KeptAll, IsRight, IsLivedThroughout, EndsWithTurn, meaning_of}
 use Rattle.loop_runner.proofs.AnswerLemmas.{grows_whole}
+use Rattle.loop_runner.proofs.KeepLemmas.{earlier}
 use Rattle.loop_runner.proofs.TurnLemmas.{one_between}
 
 -- ---- the notes end with a turn
@@ -56,32 +50,28 @@ none_rest [] e = refl
 none_rest (x ∷ xs) e =
     ap (λ (z : Bool). z || list_any is_rest xs) (one_between x (and_left (is_between x) (list_all is_between xs) e)) ∙ none_rest xs (and_right (is_between x) (list_all is_between xs) e)
 
-ending_rest : (end : Turned) → is_rest (ending end) ≡ true
+pub ending_rest : (end : Turned) → is_rest (ending end) ≡ true
 ending_rest turned.Turn = refl
 ending_rest turned.Stop = refl
 ending_rest turned.Failed = refl
 
-module _ {S : Type 0} (start : S) (after : S → EventValue → S) (said : S → EventValue → List OrderValue) (config : ConfigValue) (table : RouteTable) where
-  pub lived_after : (end : Turned) (a b : Server) (now next : S) (views : ℕ → IntakeView) → Grows a b → PassesTurn end a.net b.net → EndsWithTurn b.told → length b.net.passed < 2 ^ 64 - 1
-      → KeptAll start after said config table a now views None → IsRight start after said config table b next
-      → IsLivedThroughout start after said config table a → IsLivedThroughout start after said config table b
-  lived_after end a b now next views grows passed last few kept right lived ms told tells replies agree items =
-      let r = served_by start after said replies in
-      let was : a.net.tells ≡ true = sym grows.tells ∙ tells in
-      let v = grows.told ms told in
-      let agree_then = replies_before table v.0 v.1 a.net.given b.net.given replies (subst (λ (z : List NoteValue). AreReplies table z b.net.given replies) v.3 agree) (grows.given was) in
-      let items_then = few_before r v.0 v.1 ms v.3 items in
-      let u = passed.told was in
+module _ {S : Type 0} (b : Beginning S) where
+  pub lived_after : (end : Turned) (a d : Server) (now next : S) (views : ℕ → IntakeView) → Grows a d → PassesTurn end a.net d.net → EndsWithTurn d.told → length d.net.passed < 2 ^ 64 - 1
+      → KeptAll b a now views None → IsRight b d next → IsLivedThroughout b a → IsLivedThroughout b d
+  lived_after end a d now next views grows passed last few kept right lived ms told tells replies agree items =
+      let r = meaning_of b replies in
+      let x = earlier b a d grows replies ms told tells agree items in
+      let u = passed.told x.tells in
       let e = last ms told in
-      subst (λ (z : List NoteValue). LivedThroughout r table config.max_message z b.net.given) (sym v.3)
-      (lived_through_turn r config table v.0 v.1 e.0 a.net b.net u.0 (ending end) next (backlog_at b.hub)
-      (kept v.0 v.2 was replies agree_then items_then).kept.follows
-      (subst (λ (z : List NoteValue). Right r config table z b.net next (backlog_at b.hub)) v.3 (right ms told tells replies agree items))
-      (grows.given was) (none_rest u.0 u.1) (ending_rest end) (grows_whole (u.0 ++ ending end ∷ []) a.net.passed b.net.passed u.2 few) (sym v.3 ∙ e.1)
-      (lived v.0 v.2 was replies agree_then items_then))
+      subst (λ (z : List NoteValue). LivedThroughout r b.table b.config.max_message z d.net.given) (sym x.all)
+      (lived_through_turn r b.config b.table x.notes x.later e.0 a.net d.net u.0 (ending end) next (backlog_at d.hub)
+      (kept x.notes x.told x.tells replies x.agree x.few).kept.follows
+      (subst (λ (z : List NoteValue). Right r b.config b.table z d.net next (backlog_at d.hub)) x.all (right ms told tells replies agree items))
+      (grows.given x.tells) (none_rest u.0 u.1) (ending_rest end) (grows_whole (u.0 ++ ending end ∷ []) a.net.passed d.net.passed u.2 few) (sym x.all ∙ e.1)
+      (lived x.notes x.told x.tells replies x.agree x.few))
 
   -- before anything was noted
-  pub lived_first : (s : Server) → s.told ≡ Some [] → IsLivedThroughout start after said config table s
+  pub lived_first : (s : Server) → s.told ≡ Some [] → IsLivedThroughout b s
   lived_first s none notes told tells replies agree few before rest conn e there =
       let same : [] ≡ notes = let z : Some [] ≡ Some notes = sym none ∙ told in cc in
       absurd (no_place before rest note.turn (same ∙ e))

@@ -11,7 +11,7 @@ use Rattle.std.proofs.lemmas.Cmp.{nat_cmp_total}
 use Rattle.std.proofs.lemmas.Map.Steps.{length-le_from_keys}
 use Rattle.std.proofs.lemmas.Bool.Decides.{nat_tests}
 use Rattle.hub_lines.specs.State.{Entry, has_entry}
-use Rattle.hub_table.specs.Table.{AreAbove, AreRising}
+use Rattle.hub_notes.specs.Table.{AreAbove, AreRising}
 use Rattle.hub_notes.proofs.BoolLemmas.{by_cases, or_left, or_right}
 use Rattle.loop_runner.specs.declared.intakes.Intake.{Intake}
 

@@ -2,161 +2,94 @@
 use Rattle.std.proofs.Common.{◌≡◌, ◌≢◌, ◌≤◌, ◌<◌, ◌+◌, ◌-◌, ◌^◌, inl, inr, ⊎_elim, ℕ, suc, List, [], ◌∷◌, ◌++◌, Option, Bool, true, false, cond, nat_lt, ◌&&◌, not, is_some, Some, None, refl, sym, ap, ◌∙◌, subst, arith, append-nil}
 use Rattle.std.proofs.lemmas.Bool.{cases_eq}
 use Rattle.std.proofs.lemmas.Bool.Decides.{nat_tests}
-use Rattle.std.specs.List.{list_any, list_all}
-use Rattle.ws_kinds.specs.NoteValue as note
+use Rattle.std.specs.List.{list_all}
+use Rattle.ws_kinds.specs.declared.note.Phase.TheVariants.{Head, Gone}
+use Rattle.ws_kinds.specs.ConfigValue.{ConfigValue}
 use Rattle.ws_kinds.specs.NoteValue.{NoteValue}
 use Rattle.link_trait.specs.Link.{Rose}
 use Rattle.link_trait.specs.NetState.{NetState}
-use Rattle.link_trait.specs.Net.{Same, Accepts, Readies, Frees, SameLinks, Nexts, passing, is_rest}
-use Rattle.run_meaning.specs.Counts.{number_of}
+use Rattle.link_trait.specs.Net.{Same, Reads, CountsNetReadFaults, Nexts, CountsNextFaults, passing, is_rest}
 use Rattle.link_trait.specs.declared.net.NetEvent.{NetEvent}
 use Rattle.link_trait.specs.declared.net.NetEvent.TheVariants as event
-use Rattle.run_meaning.proofs.Parts.{list_all-append}
+use Rattle.link_trait.specs.declared.net.NetRead.{NetRead}
+use Rattle.link_trait.specs.declared.net.NetRead.TheVariants as read
+use Rattle.run_meaning.specs.Counts.{number_of}
 use Rattle.run_meaning.specs.Settled.{is_reading}
-use Rattle.hub_lines.specs.State.{HubState, Entry, Server, server, is_present, is_gone, has_entry, entry_of, phase_at, ring_at}
-use Rattle.hub_lines.specs.Calls.{Ties, Settled, nothing}
-use Rattle.hub_notes.specs.Calls.{Appends}
+use Rattle.run_meaning.proofs.Parts.{list_all-append}
+use Rattle.hub_lines.specs.State.{HubState, Entry, PartingValue, Server, server, is_present, is_gone, has_entry, entry_of, phase_at}
+use Rattle.hub_lines.specs.Calls.{Settled}
+use Rattle.hub_notes.specs.Table.{IsTable, table_of}
 use Rattle.hub_notes.proofs.BoolLemmas.{by_cases, clash, and_left, and_right}
-use Rattle.hub_table.specs.Table.{IsTable, table_of}
-use Rattle.hub_core.specs.Answers.{Makes}
-use Rattle.hub_core.specs.Turns.{EndsTurn, finishes}
 use Rattle.run_kept.specs.Ends.{AreThere}
+use Rattle.run_kept.proofs.EndLemmas.{there_same}
 use Rattle.loop_runner.specs.declared.turn.Turned.{Turned}
 use Rattle.loop_runner.specs.declared.turn.Turned.TheVariants as turned
 use Rattle.loop_runner.specs.declared.intakes.Intake.{Intake}
 use Rattle.loop_runner.specs.declared.intakes.Intakes.{Intakes}
-use Rattle.loop_runner.specs.Intakes.{intake_at, is_admitted, max_of}
+use Rattle.loop_runner.specs.Intakes.{intake_at, max_of}
 use Rattle.loop_runner.specs.Ready.{Ready}
-use Rattle.loop_runner.specs.Steps.{Every, But, Rises, Steps, Running, Onward}
+use Rattle.loop_runner.specs.Steps.{But, Rises, Onward, Steps}
 use Rattle.loop_runner.specs.Turns.{is_between, goes_on, ending, GrowsBy, AreTurns, PassesBetween, PassesTurn, PassesTurns, FailsAs}
 use Rattle.loop_runner.proofs.AnswerLemmas.{grows_none, grows_then, grows_last, grows_next}
-use Rattle.loop_runner.proofs.ProgressLemmas.{begins}
-use Rattle.loop_runner.proofs.StepLemmas.{accepts_none, outgoing_begins, begin_none, any_then, read_present, rises_by, rises_then, steps_of}
-
--- ---- an event of the net
-
-pub running_come : (conn : ℕ) (intakes : Intakes) (h : HubState) (a b : NetState) (t : Option (List NoteValue)) → Running Every intakes (server h a t) → Accepts conn a b → Running Every intakes (server h b t)
-running_come conn intakes h a b t x n = record {
-  max = x.max;
-  kept = x.kept;
-  ties = λ c there. n.live_elsewhere c (other c there) ∙ x.ties c there;
-  named = let p = x.named in let q = n.rises in subst (λ (z : ℕ). h.named ≤ z) (sym n.named) (omega arith);
-  short = x.short;
-  waits = λ c there some. n.writable_elsewhere c (other c there) ∙ x.waits c there some;
-  readers = x.readers;
-  asked = λ c p r. n.due_elsewhere c (other c (read_present h c r)) ∙ x.asked c p r;
-  taken = x.taken;
-}
-  where
-    other : (c : ℕ) → is_present h c ≡ true → c ≢ conn
-    other c there same = clash (a.live conn) n.was (x.ties conn (ap (is_present h) (sym same) ∙ there))
-
-pub running_ready : (conn : ℕ) (intakes : Intakes) (h : HubState) (a b : NetState) (t : Option (List NoteValue)) → Running Every intakes (server h a t) → Readies conn a b → Running (But conn) intakes (server h b t)
-running_ready conn intakes h a b t x n = record {
-  max = x.max;
-  kept = x.kept;
-  ties = λ c there. n.live c ∙ x.ties c there;
-  named = subst (λ (z : ℕ). h.named ≤ z) (sym n.named) x.named;
-  short = x.short;
-  waits = λ c there some. n.writable c ∙ x.waits c there some;
-  readers = x.readers;
-  asked = λ c ne r. n.due_elsewhere c ne ∙ x.asked c (tt {0}) r;
-  taken = λ c _. x.taken c (tt {0});
-}
-
--- nothing is in a ring
-pub running_freed : (conn : ℕ) (intakes : Intakes) (h : HubState) (a b : NetState) (t : Option (List NoteValue)) → Running Every intakes (server h a t) → Frees conn a b → ((c : ℕ) → ring_at h c ≡ []) → Running Every intakes (server h b t)
-running_freed conn intakes h a b t x n none = record {
-  max = x.max;
-  kept = x.kept;
-  ties = λ c there. n.live c ∙ x.ties c there;
-  named = subst (λ (z : ℕ). h.named ≤ z) (sym n.named) x.named;
-  short = x.short;
-  waits = λ c there some. absurd (some (none c));
-  readers = x.readers;
-  asked = λ c p r. n.due c ∙ x.asked c p r;
-  taken = x.taken;
-}
-
-pub running_rested : (intakes : Intakes) (h : HubState) (a b : NetState) (t : Option (List NoteValue)) → Running Every intakes (server h a t) → SameLinks a b → Running Every intakes (server h b t)
-running_rested intakes h a b t x n = record {
-  max = x.max;
-  kept = x.kept;
-  ties = λ c there. n.live c ∙ x.ties c there;
-  named = subst (λ (z : ℕ). h.named ≤ z) (sym n.named) x.named;
-  short = x.short;
-  waits = λ c there some. n.writable c ∙ x.waits c there some;
-  readers = x.readers;
-  asked = λ c p r. n.due c ∙ x.asked c p r;
-  taken = x.taken;
-}
+use Rattle.loop_runner.proofs.GrowLemmas.{grows_read}
+use Rattle.loop_runner.proofs.StepLemmas.{rises_then}
 
 -- an answer that leaves the links live leaves each live one that of an entry which is not gone
 pub there_next : (answer : NetEvent) (h : HubState) (a b : NetState) (t : Option (List NoteValue)) → Nexts answer a b → Same a.live b.live → AreThere (server h a t) → AreThere (server h b t)
 there_next answer h a b t next same there = λ c live. there c (sym (same c) ∙ live)
 
--- ---- how a turn begins and ends
+-- ---- faults of the net
 
-pub running_begun : (intakes : Intakes) (s : Server) → Ready intakes s → IsTable (table_of s.hub) → Running Every intakes s
-running_begun intakes s x table = record {
-  max = x.max;
-  kept = λ c k. sym (x.entries c) ∙ table.kept c ∙ k;
-  ties = x.ties;
-  named = x.named;
-  short = x.short;
-  waits = x.waits;
-  readers = x.readers;
-  asked = λ c _. x.asked c;
-  taken = λ c _ intake at. x.taken c intake at;
+rises_rose : (a b : ℕ) → Rose a b → Rises a b
+rises_rose a b r = ⊎_elim (λ (more : a < b). inl (omega arith)) (λ (most : b ≡ 2 ^ 64 - 1). inr (omega arith)) r
+
+rises_is : (a b : ℕ) → b ≡ a → Rises a b
+rises_is a b e = inl (omega arith)
+
+rises_next : (answer : NetEvent) (a b : ℕ) → CountsNextFaults answer a b → Rises a b
+rises_next (event.Accept c) a b e = rises_is a b e
+rises_next (event.Readable c) a b e = rises_is a b e
+rises_next (event.Writable c) a b e = rises_is a b e
+rises_next event.Tick a b e = rises_is a b e
+rises_next event.Turn a b e = rises_is a b e
+rises_next event.Stop a b e = rises_is a b e
+rises_next event.Failed a b e = rises_rose a b e
+
+read_rises : (result : NetRead) (a b : ℕ) → CountsNetReadFaults result a b → Rises a b
+read_rises (read.Octets n) a b e = rises_is a b e
+read_rises read.End a b e = rises_is a b e
+read_rises read.Later a b e = rises_is a b e
+read_rises read.Failed a b e = rises_rose a b e
+
+pub steps_read : (conn : ℕ) (space : List ℕ) (result : NetRead) (h : HubState) (a b : NetState) (t : Option (List NoteValue)) → Reads conn space result a b → Steps (But conn) (server h a t) (server h b t)
+steps_read conn space result h a b t x = record {
+  onward = record { grows = grows_read conn space result h a b t x; room = x.room; passed = λ told. (x.told told).passed; faults = read_rises result a.faults b.faults x.faults };
+  config = refl;
+  named = refl;
+  net_named = x.named;
+  table = λ table. table;
+  ties = λ ties c there. x.live c ∙ ties c there;
+  short = λ short. short;
+  waits = λ waits c there some. x.writable c ∙ waits c there some;
+  there = there_same (server h a t) b x.live;
+  kept = λ c k. k;
+  reading = λ c r. r;
+  due = λ c ne r. x.due_elsewhere c ne;
+  phase = λ c p r. inl refl;
+  weight = λ c p. omega arith;
 }
-
-pub ready_of : (intakes : Intakes) (s : Server) → Running Every intakes s → ((c : ℕ) → has_entry s.hub.entries c ≡ is_admitted intakes c) → Settled s.hub → Ready intakes s
-ready_of intakes s x exact settled = record {
-  max = x.max;
-  entries = exact;
-  ties = x.ties;
-  named = x.named;
-  settled = settled;
-  short = x.short;
-  waits = x.waits;
-  asked = λ c. x.asked c (tt {0});
-  readers = x.readers;
-  taken = λ c intake at. x.taken c (tt {0}) intake at;
-}
-
-finishes_begin : (conns : List ℕ) → list_any begins (finishes conns) ≡ false
-finishes_begin [] = refl
-finishes_begin (c ∷ conns) = finishes_begin conns
-
-pub steps_ended : (a b : Server) → EndsTurn a b → Appends nothing a b → Ties b → b.hub.named ≡ a.hub.named → Steps Every a b
-steps_ended a b x app ties named =
-    let last = finishes x.finished ++ note.turn ∷ [] in
-    let ns = x.proceeds.sending ++ last in
-    let none : list_any begins ns ≡ false = any_then begins x.proceeds.sending last (outgoing_begins x.proceeds.sending x.proceeds.outgoing) (any_then begins (finishes x.finished) (note.turn ∷ []) (finishes_begin x.finished) refl) in
-    steps_of Every ns nothing a b x.proceeds.advances (rises_by _ a.net.faults b.net.faults x.proceeds.fails.faults) app ties named (λ c _. begin_none c ns none) (accepts_none ns none)
 
 -- ---- answers
 
 between_both : (xs ys : List NetEvent) → list_all is_between xs ≡ true → list_all is_between ys ≡ true → list_all is_between (xs ++ ys) ≡ true
 between_both xs ys e h = list_all-append is_between xs ys ∙ ap (λ (z : Bool). z && list_all is_between ys) e ∙ h
 
-pub rises_next : (a b : ℕ) → b ≡ a → Rises a b
-rises_next a b e = inl (omega arith)
-
 -- an answer that ends no turn
-pub passes_next : (answer : NetEvent) (xs : List NetEvent) (a b : NetState) → Nexts answer a b → b.faults ≡ a.faults → passing answer ≡ xs → list_all is_between xs ≡ true → PassesBetween a b
-passes_next answer xs a b n faults is p = record {
+pub passes_next : (answer : NetEvent) (a b : NetState) → Nexts answer a b → list_all is_between (passing answer) ≡ true → PassesBetween a b
+passes_next answer a b n between = record {
   tells = n.net.tells;
-  told = λ t. (xs, p, grows_next a.passed answer xs b.passed is (n.told t).passed);
-  faults = rises_next a.faults b.faults faults;
-}
-
--- and an answer that ends it
-pub passes_end : (end : Turned) (a b : NetState) → Nexts (ending end) a b → passing (ending end) ≡ ending end ∷ [] → Rises a.faults b.faults → PassesTurn end a b
-passes_end end a b n is faults = record {
-  tells = n.net.tells;
-  told = λ t. ([], refl, grows_next a.passed (ending end) (ending end ∷ []) b.passed is (n.told t).passed);
-  faults = faults;
+  told = λ t. (passing answer, between, grows_next a.passed answer (passing answer) b.passed refl (n.told t).passed);
+  faults = rises_next answer a.faults b.faults n.faults;
 }
 
 pub passes_then : (a b d : NetState) → PassesBetween a b → PassesBetween b d → PassesBetween a d
@@ -181,41 +114,35 @@ passes_turn end a b d x y = record {
 
 pub passes_onward : (a b : Server) → Onward a b → PassesBetween a.net b.net
 passes_onward a b x = record {
-  tells = x.tells;
+  tells = x.grows.tells;
   told = λ t. ([], refl, subst (λ (z : List NetEvent). GrowsBy [] a.net.passed z) (sym (x.passed t)) (grows_none a.net.passed));
   faults = x.faults;
 }
 
-pub passes_makes : (ms : List NoteValue) (a b : Server) → Makes ms a b → PassesBetween a.net b.net
-passes_makes ms a b x = record {
-  tells = x.advances.net.net.tells;
-  told = λ t. ([], refl, subst (λ (z : List NetEvent). GrowsBy [] a.net.passed z) (sym (x.advances.net.told t).passed) (grows_none a.net.passed));
-  faults = rises_by _ a.net.faults b.net.faults x.fails.faults;
+-- an answer that ends it, and what follows
+passing_ending : (end : Turned) → passing (ending end) ≡ ending end ∷ []
+passing_ending turned.Turn = refl
+passing_ending turned.Stop = refl
+passing_ending turned.Failed = refl
+
+pub passes_ended : (end : Turned) (h : HubState) (a b : NetState) (t : Option (List NoteValue)) (s : Server) → Nexts (ending end) a b → Onward (server h b t) s → PassesTurn end a s.net
+passes_ended end h a b t s n x = record {
+  tells = x.grows.tells ∙ n.net.tells;
+  told = λ told. (
+    [],
+    refl,
+    subst (λ (z : List NetEvent). GrowsBy (ending end ∷ []) a.passed z) (sym (x.passed (n.net.tells ∙ told)))
+        (grows_next a.passed (ending end) (ending end ∷ []) b.passed (passing_ending end) (n.told told).passed),
+  );
+  faults = rises_then a.faults b.faults s.net.faults (rises_next (ending end) a.faults b.faults n.faults) x.faults;
 }
 
-pub passes_steps : (P : ℕ → Type 0) (a b : Server) → Steps P a b → PassesBetween a.net b.net
-passes_steps P a b x = record {
-  tells = x.tells;
-  told = λ t. ([], refl, subst (λ (z : List NetEvent). GrowsBy [] a.net.passed z) (sym (x.passed t)) (grows_none a.net.passed));
-  faults = x.faults;
-}
-
--- what follows the end of a turn
-pub passes_ended : (end : Turned) (a b : NetState) (s : Server) (P : ℕ → Type 0) (r : Server) → PassesTurn end a r.net → Steps P r s → PassesTurn end a s.net
-passes_ended end a b s P r x y = record {
-  tells = y.tells ∙ x.tells;
-  told = λ t.
-      let u = x.told t in
-      (u.0, u.1, subst (λ (z : List NetEvent). GrowsBy (u.0 ++ ending end ∷ []) a.passed z) (sym (y.passed (x.tells ∙ t))) u.2);
-  faults = rises_then a.faults r.net.faults s.net.faults x.faults y.faults;
-}
-
--- ---- faults
+-- ---- a turn that failed
 
 above : (a d : ℕ) → a ≤ 2 ^ 64 - 1 → 2 ^ 64 - 1 ≤ d → Rose a d
 above a d few full = ⊎_elim (λ (e : d ≡ 2 ^ 64 - 1). inr e) (λ (ne : d ≡ 2 ^ 64 - 1 → ⊥). inl (omega (arith, ne))) (cases_eq d (2 ^ 64 - 1))
 
-pub rose_after : (a b d : ℕ) → Rose a b → Rises b d → a ≤ 2 ^ 64 - 1 → Rose a d
+rose_after : (a b d : ℕ) → Rose a b → Rises b d → a ≤ 2 ^ 64 - 1 → Rose a d
 rose_after a b d (inl more) (inl most) few = inl (omega arith)
 rose_after a b d (inr is) (inl most) few = above a d few (omega arith)
 rose_after a b d r (inr full) few = above a d few full
@@ -238,11 +165,11 @@ fails_then turned.Turn a b d x y f = tt {0}
 fails_then turned.Stop a b d x y f = tt {0}
 fails_then turned.Failed a b d x y f = rose_before a b d x y f
 
-rises_rose : (a b : ℕ) → Rose a b → Rises a b
-rises_rose a b r = ⊎_elim (λ (more : a < b). inl (omega arith)) (λ (most : b ≡ 2 ^ 64 - 1). inr (omega arith)) r
-
-pub rose_rises : (a b : ℕ) → Rose a b → Rises a b
-rose_rises a b r = rises_rose a b r
+-- it failed where the net said so last
+pub fails_ended : (end : Turned) (a b d : ℕ) → CountsNextFaults (ending end) a b → Rises b d → FailsAs end a d
+fails_ended turned.Turn a b d e x = tt {0}
+fails_ended turned.Stop a b d e x = tt {0}
+fails_ended turned.Failed a b d e x = rose_after a b d e x
 
 -- ---- turn after turn
 
@@ -338,15 +265,34 @@ new_away : (entries : List Entry) (c : ℕ) → entries ≡ [] → (has_entry en
 new_away [] c e = (refl, refl)
 new_away (first ∷ rest) c e = cc
 
-pub new_unread : (h : HubState) (c : ℕ) → h.entries ≡ [] → is_reading (phase_at h c) ≡ false
+new_unread : (h : HubState) (c : ℕ) → h.entries ≡ [] → is_reading (phase_at h c) ≡ false
 new_unread h c e = ap (λ (z : List Entry). is_reading (cond (has_entry z c) (Some (entry_of z c).phase) None)) e
 
+new_table : (f : ConfigValue) (named : ℕ) → IsTable (record { config = f; named = named; entries = []; partings = [] })
+new_table f named = record {
+  rising = tt;
+  first = λ c there. clash false refl there;
+  named = λ c there. clash false refl there;
+  few = omega arith;
+  kept = λ c. refl;
+  config = λ c there. clash false refl there;
+  gone = λ c there. refl;
+  heads = λ c there. absurd (let z : Gone ≡ Head = there in cc);
+}
+
+-- the table of a hub without connections
+pub table_new : (h : HubState) → h.entries ≡ [] → h.partings ≡ [] → IsTable (table_of h)
+table_new h entries partings =
+    subst (λ (z : List Entry). IsTable (record { config = h.config; named = h.named; entries = z; partings = h.partings })) (sym entries)
+    (subst (λ (z : List PartingValue). IsTable (record { config = h.config; named = h.named; entries = []; partings = z })) (sym partings) (new_table h.config h.named))
+
 -- a hub and intakes without connections are ready
-pub ready_new : (intakes : Intakes) (h : HubState) (net : NetState) (t : Option (List NoteValue)) → h.config.max_message ≡ max_of intakes → h.entries ≡ [] → h.named ≡ 0 → Settled h → ((c : ℕ) → intake_at intakes c ≡ None)
-    → Ready intakes (server h net t)
-ready_new intakes h net t max entries named settled none = record {
+pub ready_new : (intakes : Intakes) (h : HubState) (net : NetState) (t : Option (List NoteValue)) → h.config.max_message ≡ max_of intakes → h.entries ≡ [] → h.partings ≡ [] → h.named ≡ 0 → Settled h
+    → ((c : ℕ) → intake_at intakes c ≡ None) → Ready intakes (server h net t)
+ready_new intakes h net t max entries partings named settled none = record {
   max = max;
   entries = λ c. (new_away h.entries c entries).0 ∙ sym (ap is_some (none c));
+  table = table_new h entries partings;
   ties = λ c there. clash (is_present h c) (new_away h.entries c entries).1 there;
   named = omega arith;
   settled = settled;

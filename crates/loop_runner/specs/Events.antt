@@ -1,7 +1,7 @@
 -- What a reader can tell.
 use Rattle.std.specs.Prelude.{◌≡◌, ◌≤◌, ⊤, true, List, [], ◌∷◌, length}
 use Rattle.wire_meaning.specs.Event.{Event, message, ping, pong, closed, failed}
-use Rattle.hub_core.specs.Answers.{is_failure, IsClose}
+use Rattle.hub_notes.specs.Answers.{is_failure, IsClose}
 
 -- a ping is short; a close has no code and no reason, or a code that may be sent and a short reason; and a failure has a code
 -- that the standard has for it

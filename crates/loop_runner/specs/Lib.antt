@@ -5,3 +5,5 @@ pub mod Events
 pub mod Heads
 pub mod Turns
 pub mod Keeps
+pub mod Moments
+pub mod Turning

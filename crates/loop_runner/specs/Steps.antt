@@ -1,21 +1,18 @@
 -- What holds within a turn, and what each step keeps.
-use Rattle.std.specs.Prelude.{◌≡◌, ◌≢◌, ◌≤◌, ◌⊎◌, ◌+◌, ◌-◌, ◌^◌, ⊤, ℕ, List, zero, suc, Option, Some, Bool, true, false, is_some, if◌then◌else◌}
+use Rattle.std.specs.Prelude.{◌≡◌, ◌≢◌, ◌≤◌, ◌⊎◌, ◌+◌, ◌-◌, ◌^◌, ⊤, ℕ, List, ◌++◌, zero, suc, Option, Some, Bool, true, false, is_some, if◌then◌else◌}
 use Rattle.ws_kinds.specs.declared.note.Phase.{Phase}
 use Rattle.ws_kinds.specs.declared.note.Phase.TheVariants.{Head, Open, Leaving}
 use Rattle.ws_kinds.specs.NoteValue.{NoteValue}
-use Rattle.ws_kinds.specs.OrderValue.{OrderValue}
-use Rattle.ws_kinds.specs.Watch.{IsNoted}
 use Rattle.run_meaning.specs.Lines.{is_open}
 use Rattle.run_meaning.specs.Settled.{is_reading}
 use Rattle.frame_reader.specs.declared.reader.Reader.{Reader}
 use Rattle.frame_reader.specs.Reader as reader
 use Rattle.frame_reader.specs.Reader.{has_ended}
-use Rattle.hub_lines.specs.State.{HubState, Server, server, phase_at}
+use Rattle.hub_lines.specs.State.{HubState, Server, phase_at}
 use Rattle.hub_lines.specs.Calls.{Ties, ShortRings}
 use Rattle.hub_notes.specs.Progress.{Progress, progress_at}
 use Rattle.hub_notes.specs.Fronts.{RingsWait}
-use Rattle.hub_table.specs.Table.{is_kept}
-use Rattle.hub_core.specs.Orders.{ServesAll}
+use Rattle.hub_notes.specs.Table.{IsTable, is_kept, table_of}
 use Rattle.run_kept.specs.Ends.{AreThere}
 use Rattle.loop_runner.specs.declared.intakes.Intake.{Intake}
 use Rattle.loop_runner.specs.declared.intakes.Intakes.{Intakes}
@@ -29,9 +26,23 @@ Every conn = ⊤
 abbrev pub But : ℕ → ℕ → Type 0
 But conn other = other ≢ conn
 
+-- The notes only grow, and so does what was read of each connection, where net and watch tell; the net's schedule stays.
+pub record Grows (old new : Server) : Type 0 where
+  pub tells : new.net.tells ≡ old.net.tells
+  pub schedule : new.net.schedule ≡ old.net.schedule
+  pub told : (after : List NoteValue) → new.told ≡ Some after → (notes : List NoteValue) × (later : List NoteValue) × (old.told ≡ Some notes) × (after ≡ notes ++ later)
+  pub given : old.net.tells ≡ true → (conn : ℕ) → (behind : List ℕ) × (new.net.given conn ≡ old.net.given conn ++ behind)
+
 -- the count of faults did not fall, unless it stands at its end
 abbrev pub Rises : ℕ → ℕ → Type 0
 Rises old new = (old ≤ new) ⊎ (2 ^ 64 - 1 ≤ new)
+
+-- what every step keeps, also one that takes a connection in: the net was not asked what is next
+pub record Onward (old new : Server) : Type 0 where
+  pub grows : Grows old new
+  pub room : new.net.room ≤ old.net.room
+  pub passed : old.net.tells ≡ true → new.net.passed ≡ old.net.passed
+  pub faults : Rises old.net.faults new.net.faults
 
 -- how many Closed events a connection can still have: one while it is open, and one that is due
 abbrev pub weight_of : Progress → ℕ
@@ -49,15 +60,17 @@ weight_below (suc bound) hub = weight_at hub bound + weight_below bound hub
 abbrev pub is_kept_at : HubState → ℕ → Bool
 is_kept_at hub conn = is_kept hub.entries hub.partings conn
 
+-- the phase is as it was, or it was Open and a Close was served
+abbrev pub StaysOrLeaves : Option Phase → Option Phase → Type 0
+StaysOrLeaves old new = (new ≡ old) ⊎ ((old ≡ Some Open) × (new ≡ Some Leaving))
+
 -- what a step that takes no connection in keeps, and what it keeps of these connections
 pub record Steps (P : ℕ → Type 0) (old new : Server) : Type 0 where
+  pub onward : Onward old new
   pub config : new.hub.config ≡ old.hub.config
   pub named : new.hub.named ≡ old.hub.named
   pub net_named : new.net.named ≡ old.net.named
-  pub room : new.net.room ≤ old.net.room
-  pub tells : new.net.tells ≡ old.net.tells
-  pub passed : old.net.tells ≡ true → new.net.passed ≡ old.net.passed
-  pub faults : Rises old.net.faults new.net.faults
+  pub table : IsTable (table_of old.hub) → IsTable (table_of new.hub)
   pub ties : Ties old → Ties new
   pub short : ShortRings old → ShortRings new
   pub waits : RingsWait old → RingsWait new
@@ -67,27 +80,22 @@ pub record Steps (P : ℕ → Type 0) (old new : Server) : Type 0 where
   pub kept : (conn : ℕ) → is_kept_at new.hub conn ≡ true → is_kept_at old.hub conn ≡ true
   pub reading : (conn : ℕ) → is_reading (phase_at new.hub conn) ≡ true → is_reading (phase_at old.hub conn) ≡ true
   pub due : (conn : ℕ) → P conn → is_reading (phase_at new.hub conn) ≡ true → new.net.due conn ≡ old.net.due conn
-  pub phase : (conn : ℕ) → P conn → is_reading (phase_at new.hub conn) ≡ true → phase_at new.hub conn ≡ phase_at old.hub conn
+  pub phase : (conn : ℕ) → P conn → is_reading (phase_at new.hub conn) ≡ true → StaysOrLeaves (phase_at old.hub conn) (phase_at new.hub conn)
   pub weight : (conn : ℕ) → P conn → weight_at new.hub conn ≤ weight_at old.hub conn
 
--- what every step keeps, also one that takes a connection in
-pub record Onward (old new : Server) : Type 0 where
-  pub room : new.net.room ≤ old.net.room
-  pub tells : new.net.tells ≡ old.net.tells
-  pub passed : old.net.tells ≡ true → new.net.passed ≡ old.net.passed
-  pub faults : Rises old.net.faults new.net.faults
-
--- Besides what was done to others, an event was noted, and then given: the orders of this connection that answer it were
--- served.
-pub record Gives (conn : ℕ) (first : NoteValue) (orders : List OrderValue) (old new : Server) : Type 0 where
-  pub told : Option (List NoteValue)
-  pub noted : IsNoted old.told first told
-  pub served : ServesAll conn 0 orders (server old.hub old.net told) new
+-- Octets of a connection were taken, with the reader that becomes `after`: all that came of it was taken, but for what waits
+-- for more, and none are ready.
+pub record Takes (conn : ℕ) (before after : Reader) (old new : Server) : Type 0 where
+  pub steps : Steps (But conn) old new
+  pub asked : IsAsked conn new
+  pub taken : IsTaken (phase_at new.hub conn) after
+  pub max : reader.max_of after ≡ reader.max_of before
 
 -- what holds within a turn, and of these connections what holds between events
 pub record Running (P : ℕ → Type 0) (intakes : Intakes) (s : Server) : Type 0 where
   pub max : s.hub.config.max_message ≡ max_of intakes
   pub kept : (conn : ℕ) → is_kept_at s.hub conn ≡ true → is_admitted intakes conn ≡ true
+  pub table : IsTable (table_of s.hub)
   pub ties : Ties s
   pub named : s.hub.named ≤ s.net.named
   pub short : ShortRings s

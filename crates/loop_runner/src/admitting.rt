@@ -1,24 +1,22 @@
 //! The head of a connection's request (RFC 6455, section 4.2).
 
-ghost use Rattle.std.specs.Prelude.{◌≡◌, ◌<◌, ◌≤◌, ◌++◌, ℕ, List, [], ◌∷◌, true, false, length, drop, Some, if◌then◌else◌, None, take};
+ghost use Rattle.std.specs.Prelude.{◌≡◌, ◌<◌, ◌≤◌, ◌++◌, ℕ, List, [], true, false, length, drop, Some, None, if◌then◌else◌};
 ghost use Rattle.ws_kinds.specs.declared.note.Phase.TheVariants as phase;
 ghost use Rattle.ws_kinds.specs.EventValue as event;
 ghost use Rattle.wire_meaning.specs.Reading.{reading};
-ghost use Rattle.route_table.specs.Table.{RouteTable};
-ghost use Rattle.upgrade_head.specs.Texts.{reply_text};
 ghost use Rattle.upgrade_head.specs.Judged.{Judged, IsInRange, protocol_of};
-ghost use Rattle.run_meaning.specs.Settled.{is_reading};
 ghost use Rattle.frame_reader.specs.Reader.{raw_of, max_of, ahead, is_unread, has_ended};
-ghost use Rattle.hub_lines.specs.State.{server, phase_at};
+ghost use Rattle.run_meaning.specs.Settled.{is_reading};
+ghost use Rattle.hub_lines.specs.State.{phase_at};
 ghost use Rattle.hub_lines.specs.Calls.{Ties};
-ghost use Rattle.hub_table.specs.Table.{IsTable, table_of};
-ghost use Rattle.loop_runner.specs.Ready.{IsTaken, IsAsked};
-ghost use Rattle.loop_runner.specs.Steps.{But, Steps, HasFrames};
-ghost use Rattle.loop_runner.specs.Heads.{decision_seen, Opens};
-ghost use Rattle.ws_kinds.specs.ConfigValue.{ConfigValue};
-ghost use Rattle.route_table.specs.Table.{RouteTable};
-ghost use Rattle.run_kept.specs.Kept.{IntakeView};
-ghost use Rattle.loop_runner.specs.Keeps.{Grows, KeptAll, view_of, intake_view, with_view, AreViews};
+ghost use Rattle.hub_notes.specs.Answers.{has_frames};
+ghost use Rattle.hub_notes.specs.Table.{IsTable, table_of};
+ghost use Rattle.hub_core.specs.At.{at};
+ghost use Rattle.run_kept.specs.Giving.{event_for};
+ghost use Rattle.loop_runner.specs.Heads.{decision_seen};
+ghost use Rattle.loop_runner.specs.Steps.{But, Steps, Takes};
+ghost use Rattle.loop_runner.specs.Keeps.{intake_view};
+ghost use Rattle.loop_runner.specs.Moments.{moment, Opens, KeepsView};
 
 use crate::frames::read_frames;
 use crate::giving::give;
@@ -65,14 +63,10 @@ pub(crate) fn judge_head<N: Net, W: Watch, H: Handler>(
     requires phase { phase_at hub.old conn.0 ≡ Some phase.Head }
     requires unread { is_unread intake.old.reader ≡ true }
     requires asked { (N.state out.old.net).due conn.0 ≡ false }
-    requires ties { Ties (server hub.old (N.state out.old.net) (W.told out.old.watch)) }
-    ensures ties { Ties (server hub.new (N.state out.new.net) (W.told out.new.watch)) }
-    ensures steps { Steps (But conn.0) (server hub.old (N.state out.old.net) (W.told out.old.watch)) (server hub.new (N.state out.new.net) (W.told out.new.watch)) }
-    ensures asked { IsAsked conn.0 (server hub.new (N.state out.new.net) (W.told out.new.watch)) }
-    ensures taken { IsTaken (phase_at hub.new conn.0) intake.new.reader }
-    ensures max { max_of intake.new.reader ≡ max_of intake.old.reader }
-    ensures grows { Grows (server hub.old (N.state out.old.net) (W.told out.old.watch)) (server hub.new (N.state out.new.net) (W.told out.new.watch)) }
-    ensures kept { (start : H.State) (config : ConfigValue) (views : ℕ → IntakeView) → views conn.0 ≡ intake_view intake.old → KeptAll start H.after H.said config routes.now (server hub.old (N.state out.old.net) (W.told out.old.watch)) (H.state handler.old) views (Some conn.0) → KeptAll start H.after H.said config routes.now (server hub.new (N.state out.new.net) (W.told out.new.watch)) (H.state handler.new) (with_view conn.0 (intake_view intake.new) views) None }
+    requires ties { Ties (at N.Net W.Watch hub.old out.old) }
+    ensures takes { Takes conn.0 intake.old.reader intake.new.reader (at N.Net W.Watch hub.old out.old) (at N.Net W.Watch hub.new out.new) }
+    ensures kept { let seen = moment N.Net W.Watch H.Handler in
+        KeepsView routes.now conn.0 (Some conn.0) None (intake_view intake.old) (intake_view intake.new) (seen hub.old out.old handler.old) (seen hub.new out.new handler.new) }
 {
     match decide(intake, routes) {
         Decision::More => {}
@@ -146,14 +140,10 @@ fn admit<N: Net, W: Watch, H: Handler>(
     requires route { admission.route < length routes.now.protocols }
     requires judged { Judged routes.now (raw_of intake.old.reader) (decision_seen (Decision.Admit admission)) }
     requires asked { (N.state out.old.net).due conn.0 ≡ false }
-    requires ties { Ties (server hub.old (N.state out.old.net) (W.told out.old.watch)) }
-    ensures ties { Ties (server hub.new (N.state out.new.net) (W.told out.new.watch)) }
-    ensures steps { Steps (But conn.0) (server hub.old (N.state out.old.net) (W.told out.old.watch)) (server hub.new (N.state out.new.net) (W.told out.new.watch)) }
-    ensures asked { IsAsked conn.0 (server hub.new (N.state out.new.net) (W.told out.new.watch)) }
-    ensures taken { IsTaken (phase_at hub.new conn.0) intake.new.reader }
-    ensures max { max_of intake.new.reader ≡ max_of intake.old.reader }
-    ensures grows { Grows (server hub.old (N.state out.old.net) (W.told out.old.watch)) (server hub.new (N.state out.new.net) (W.told out.new.watch)) }
-    ensures kept { (start : H.State) (config : ConfigValue) (views : ℕ → IntakeView) → views conn.0 ≡ intake_view intake.old → KeptAll start H.after H.said config routes.now (server hub.old (N.state out.old.net) (W.told out.old.watch)) (H.state handler.old) views (Some conn.0) → KeptAll start H.after H.said config routes.now (server hub.new (N.state out.new.net) (W.told out.new.watch)) (H.state handler.new) (with_view conn.0 (intake_view intake.new) views) None }
+    requires ties { Ties (at N.Net W.Watch hub.old out.old) }
+    ensures takes { Takes conn.0 intake.old.reader intake.new.reader (at N.Net W.Watch hub.old out.old) (at N.Net W.Watch hub.new out.new) }
+    ensures kept { let seen = moment N.Net W.Watch H.Handler in
+        KeepsView routes.now conn.0 (Some conn.0) None (intake_view intake.old) (intake_view intake.new) (seen hub.old out.old handler.old) (seen hub.new out.new handler.new) }
 {
     let reply = reply(
         &admission.accept,
@@ -199,14 +189,12 @@ fn open<N: Net, W: Watch, H: Handler>(
     requires phase { phase_at hub.old conn.0 ≡ Some phase.Head }
     requires some { 1 ≤ length reply.now }
     requires short { length reply.now ≤ 256 }
-    requires ties { Ties (server hub.old (N.state out.old.net) (W.told out.old.watch)) }
-    ensures ties { Ties (server hub.new (N.state out.new.net) (W.told out.new.watch)) }
-    ensures state { H.state handler.new ≡ H.after (H.state handler.old) (record { conn = conn.0; route = intake.now.route; param = intake.now.param.items; what = event.opened }) }
-    ensures opens { Opens conn.0 intake.now.route intake.now.param.items reply.now (H.said (H.state handler.new) (record { conn = conn.0; route = intake.now.route; param = intake.now.param.items; what = event.opened })) (server hub.old (N.state out.old.net) (W.told out.old.watch)) (server hub.new (N.state out.new.net) (W.told out.new.watch)) }
-    ensures steps { Steps (But conn.0) (server hub.old (N.state out.old.net) (W.told out.old.watch)) (server hub.new (N.state out.new.net) (W.told out.new.watch)) }
+    requires ties { Ties (at N.Net W.Watch hub.old out.old) }
+    ensures opens { let seen = moment N.Net W.Watch H.Handler in
+        Opens reply.now (event_for conn.0 (intake_view intake.now) event.opened) (seen hub.old out.old handler.old) (seen hub.new out.new handler.new) }
+    ensures steps { Steps (But conn.0) (at N.Net W.Watch hub.old out.old) (at N.Net W.Watch hub.new out.new) }
     ensures due { is_reading (phase_at hub.new conn.0) ≡ true → (N.state out.new.net).due conn.0 ≡ (N.state out.old.net).due conn.0 }
-    ensures entered { is_reading (phase_at hub.new conn.0) ≡ true → phase_at hub.new conn.0 ≡ Some phase.Open }
-    ensures grows { Grows (server hub.old (N.state out.old.net) (W.told out.old.watch)) (server hub.new (N.state out.new.net) (W.told out.new.watch)) }
+    ensures entered { is_reading (phase_at hub.new conn.0) ≡ true → has_frames (phase_at hub.new conn.0) ≡ true }
     ensures table { IsTable (table_of hub.new) }
 {
     let route = intake.route;

@@ -1,21 +1,14 @@
 //! Connections that come.
 
-ghost use Rattle.std.specs.Prelude.{◌≡◌, ◌<◌, ◌≤◌, ◌^◌, ◌-◌, ℕ, length, None, true, false};
+ghost use Rattle.std.specs.Prelude.{◌≡◌, ◌<◌, ◌≤◌, None, true, false};
 ghost use Rattle.ws_kinds.specs.NoteValue.{note_value};
 ghost use Rattle.ws_kinds.specs.Watch.{IsNoted};
 ghost use Rattle.link_trait.specs.Net.{Shuts};
-ghost use Rattle.ws_kinds.specs.ConfigValue.{ConfigValue};
-ghost use Rattle.link_trait.specs.NetState.{NetState};
 ghost use Rattle.link_trait.specs.declared.net.NetEvent.TheVariants as answer;
-ghost use Rattle.link_trait.specs.Net.{Nexts};
-ghost use Rattle.route_table.specs.Table.{RouteTable};
-ghost use Rattle.run_kept.specs.Kept.{IntakeView};
-ghost use Rattle.run_kept.specs.Ends.{AreThere};
-ghost use Rattle.loop_runner.specs.Keeps.{Grows, KeptAll, AreViews};
-ghost use Rattle.hub_lines.specs.State.{server};
-ghost use Rattle.hub_table.specs.Table.{IsTable, table_of};
+ghost use Rattle.hub_core.specs.At.{at};
 ghost use Rattle.loop_runner.specs.Intakes.{intake_at, ChangesIntake};
-ghost use Rattle.loop_runner.specs.Steps.{Every, Running, Onward};
+ghost use Rattle.loop_runner.specs.Steps.{Every, Running};
+ghost use Rattle.loop_runner.specs.Moments.{moment, TakesIn};
 
 use crate::intakes::Intakes;
 use hub_core::{Arrival, Hub};
@@ -35,13 +28,8 @@ pub(crate) fn arrive<N: Net, W: Watch, H: Handler>(
     requires named { conn.0 ≤ (N.state out.old.net).named }
     requires live { (N.state out.old.net).live conn.0 ≡ true }
     requires unasked { (N.state out.old.net).due conn.0 ≡ false }
-    requires table { IsTable (table_of hub.old) }
-    requires running { Running Every intakes.old (server hub.old (N.state out.old.net) (W.told out.old.watch)) }
-    ensures running { Running Every intakes.new (server hub.new (N.state out.new.net) (W.told out.new.watch)) }
-    ensures onward { Onward (server hub.old (N.state out.old.net) (W.told out.old.watch)) (server hub.new (N.state out.new.net) (W.told out.new.watch)) }
-    ensures there { (before : NetState) → Nexts (answer.Accept conn) before (N.state out.old.net) → AreThere (server hub.old before (W.told out.old.watch)) → AreThere (server hub.new (N.state out.new.net) (W.told out.new.watch)) }
-    ensures grows { Grows (server hub.old (N.state out.old.net) (W.told out.old.watch)) (server hub.new (N.state out.new.net) (W.told out.new.watch)) }
-    ensures kept { (start : H.State) (config : ConfigValue) (table : RouteTable) (views : ℕ → IntakeView) (before : NetState) → Nexts (answer.Accept conn) before (N.state out.old.net) → length before.passed < 2 ^ 64 - 1 → AreViews intakes.old views → KeptAll start H.after H.said config table (server hub.old before (W.told out.old.watch)) (H.state handler.now) views None → (later : ℕ → IntakeView) × AreViews intakes.new later × KeptAll start H.after H.said config table (server hub.new (N.state out.new.net) (W.told out.new.watch)) (H.state handler.now) later None }
+    requires running { Running Every intakes.old (at N.Net W.Watch hub.old out.old) }
+    ensures { let seen = moment N.Net W.Watch H.Handler in TakesIn (answer.Accept conn) intakes.old intakes.new (seen hub.old out.old handler.now) (seen hub.new out.new handler.now) }
 {
     if hub.full() {
         turn_away(out, conn, &Note::Busy(conn));

@@ -1,31 +1,24 @@
 //! Closed events, and the end of intakes.
 
-ghost use Rattle.std.specs.Prelude.{◌≡◌, ◌<◌, ℕ, suc, List, [], None, Some, Option, true, false, IfSome, IfNone, if◌then◌else◌};
-ghost use Rattle.std.specs.Option.{option_map};
-ghost use Rattle.ws_kinds.specs.NoteValue as note;
-ghost use Rattle.ws_kinds.specs.NoteValue.{NoteValue};
-ghost use Rattle.ws_kinds.specs.EventValue as event;
-ghost use Rattle.link_trait.specs.NetState.{NetState};
-ghost use Rattle.hub_lines.specs.State.{server, has_entry};
+ghost use Rattle.std.specs.Prelude.{◌≡◌, ◌<◌, ℕ, suc, None, true, false};
+ghost use Rattle.route_table.specs.Table.{RouteTable};
+ghost use Rattle.hub_lines.specs.State.{HubState, has_entry};
 ghost use Rattle.hub_lines.specs.Calls.{Ties};
 ghost use Rattle.hub_notes.specs.Progress.{due_at};
-ghost use Rattle.hub_table.specs.Parting.{parting_value};
-ghost use Rattle.hub_table.specs.Table.{IsTable, TakesDue, table_of};
-ghost use Rattle.loop_runner.specs.Intakes.{max_of, intake_at, is_admitted, ChangesIntake, SameIntakes};
-ghost use Rattle.loop_runner.specs.Steps.{Every, Steps, Gives, Running, is_kept_at, weight_below};
-ghost use Rattle.hub_lines.specs.State.{HubState};
-ghost use Rattle.hub_lines.specs.Calls.{nothing};
-ghost use Rattle.hub_notes.specs.Calls.{Appends};
-ghost use Rattle.ws_kinds.specs.ConfigValue.{ConfigValue};
-ghost use Rattle.route_table.specs.Table.{RouteTable};
+ghost use Rattle.hub_notes.specs.Table.{IsTable, table_of};
+ghost use Rattle.hub_core.specs.Parting.{parting_value};
+ghost use Rattle.hub_core.specs.At.{at};
 ghost use Rattle.run_kept.specs.Kept.{IntakeView};
-ghost use Rattle.loop_runner.specs.Keeps.{Grows, KeptAll, AreViews};
+ghost use Rattle.loop_runner.specs.Intakes.{max_of, intake_at, is_admitted};
+ghost use Rattle.loop_runner.specs.Steps.{Every, Steps, Running, is_kept_at, weight_below};
+ghost use Rattle.loop_runner.specs.Keeps.{AreViews};
+ghost use Rattle.loop_runner.specs.Moments.{moment, with_hub, Keeps, KeepsOn, HandsOut};
 
 use crate::giving::give;
 use crate::intakes::Intakes;
 use hub_core::{Hub, Parting};
 use link_trait::{Net, Outside};
-use ws_kinds::{Conn, Event, Handler, Note, Watch, What};
+use ws_kinds::{Event, Handler, Note, Watch, What};
 
 /// Gives all Closed events that are due, that of the least connection first, until none is due. Then each connection that is
 /// no entry has no intake.
@@ -35,14 +28,10 @@ pub(crate) fn close_all<N: Net, W: Watch, H: Handler>(
     out: &mut Outside<N, W>,
     handler: &mut H,
 )
-    requires running { Running Every intakes.old (server hub.old (N.state out.old.net) (W.told out.old.watch)) }
-    ensures running { Running Every intakes.new (server hub.new (N.state out.new.net) (W.told out.new.watch)) }
-    ensures steps { Steps Every (server hub.old (N.state out.old.net) (W.told out.old.watch)) (server hub.new (N.state out.new.net) (W.told out.new.watch)) }
+    requires running { Running Every intakes.old (at N.Net W.Watch hub.old out.old) }
     ensures none { (conn : ℕ) → due_at hub.new conn ≡ None }
-    ensures table { IsTable (table_of hub.new) }
     ensures entries { (conn : ℕ) → has_entry hub.new.entries conn ≡ is_admitted intakes.new conn }
-    ensures grows { Grows (server hub.old (N.state out.old.net) (W.told out.old.watch)) (server hub.new (N.state out.new.net) (W.told out.new.watch)) }
-    ensures kept { (start : H.State) (config : ConfigValue) (table : RouteTable) (views : ℕ → IntakeView) → AreViews intakes.old views → KeptAll start H.after H.said config table (server hub.old (N.state out.old.net) (W.told out.old.watch)) (H.state handler.old) views None → AreViews intakes.new views × KeptAll start H.after H.said config table (server hub.new (N.state out.new.net) (W.told out.new.watch)) (H.state handler.new) views None }
+    ensures keeps { let seen = moment N.Net W.Watch H.Handler in KeepsOn intakes.old intakes.new (seen hub.old out.old handler.old) (seen hub.new out.new handler.new) }
 {
     close_due(hub, intakes, out, handler);
     tidy(hub, intakes);
@@ -55,12 +44,9 @@ fn close_due<N: Net, W: Watch, H: Handler>(
     out: &mut Outside<N, W>,
     handler: &mut H,
 )
-    requires running { Running Every intakes.old (server hub.old (N.state out.old.net) (W.told out.old.watch)) }
-    ensures running { Running Every intakes.new (server hub.new (N.state out.new.net) (W.told out.new.watch)) }
-    ensures steps { Steps Every (server hub.old (N.state out.old.net) (W.told out.old.watch)) (server hub.new (N.state out.new.net) (W.told out.new.watch)) }
+    requires running { Running Every intakes.old (at N.Net W.Watch hub.old out.old) }
     ensures none { (conn : ℕ) → due_at hub.new conn ≡ None }
-    ensures grows { Grows (server hub.old (N.state out.old.net) (W.told out.old.watch)) (server hub.new (N.state out.new.net) (W.told out.new.watch)) }
-    ensures kept { (start : H.State) (config : ConfigValue) (table : RouteTable) (views : ℕ → IntakeView) → AreViews intakes.old views → KeptAll start H.after H.said config table (server hub.old (N.state out.old.net) (W.told out.old.watch)) (H.state handler.old) views None → AreViews intakes.new views × KeptAll start H.after H.said config table (server hub.new (N.state out.new.net) (W.told out.new.watch)) (H.state handler.new) views None }
+    ensures keeps { let seen = moment N.Net W.Watch H.Handler in KeepsOn intakes.old intakes.new (seen hub.old out.old handler.old) (seen hub.new out.new handler.new) }
 {
     'closed: loop {
         if !close_next(hub, intakes, out, handler) {
@@ -76,15 +62,12 @@ fn close_next<N: Net, W: Watch, H: Handler>(
     out: &mut Outside<N, W>,
     handler: &mut H,
 ) -> bool
-    requires running { Running Every intakes.old (server hub.old (N.state out.old.net) (W.told out.old.watch)) }
-    ensures running { Running Every intakes.new (server hub.new (N.state out.new.net) (W.told out.new.watch)) }
-    ensures steps { Steps Every (server hub.old (N.state out.old.net) (W.told out.old.watch)) (server hub.new (N.state out.new.net) (W.told out.new.watch)) }
+    requires running { Running Every intakes.old (at N.Net W.Watch hub.old out.old) }
     ensures none { result ≡ false → (conn : ℕ) → due_at hub.new conn ≡ None }
     ensures fewer { result ≡ true → weight_below (suc hub.new.named) hub.new < weight_below (suc hub.old.named) hub.old }
-    ensures grows { Grows (server hub.old (N.state out.old.net) (W.told out.old.watch)) (server hub.new (N.state out.new.net) (W.told out.new.watch)) }
-    ensures kept { (start : H.State) (config : ConfigValue) (table : RouteTable) (views : ℕ → IntakeView) → AreViews intakes.old views → KeptAll start H.after H.said config table (server hub.old (N.state out.old.net) (W.told out.old.watch)) (H.state handler.old) views None → AreViews intakes.new views × KeptAll start H.after H.said config table (server hub.new (N.state out.new.net) (W.told out.new.watch)) (H.state handler.new) views None }
+    ensures keeps { let seen = moment N.Net W.Watch H.Handler in KeepsOn intakes.old intakes.new (seen hub.old out.old handler.old) (seen hub.new out.new handler.new) }
 {
-    match take_closed(hub) {
+    match hub.next_closed() {
         None => false,
         Some(parting) => {
             close(hub, intakes, out, handler, &parting);
@@ -93,21 +76,7 @@ fn close_next<N: Net, W: Watch, H: Handler>(
     }
 }
 
-/// The Closed event that is due next, handed out once. None exactly where none is due, and then nothing changes.
-fn take_closed(hub: &mut Hub) -> Option<Parting>
-    ensures due { TakesDue (option_map parting_value result) (table_of hub.old) (table_of hub.new) }
-    ensures none { IfNone result (hub.new ≡ hub.old) }
-    ensures steps { IfSome result (λ parting. (net : NetState) (told : Option (List NoteValue)) → Steps Every (server hub.old net told) (server hub.new net told)) }
-    ensures fewer { IfSome result (λ parting. weight_below (suc hub.new.named) hub.new < weight_below (suc hub.old.named) hub.old) }
-    ensures appends { IfSome result (λ parting. (net : NetState) (told : Option (List NoteValue)) → Appends nothing (server hub.old net told) (server hub.new net told)) }
-{
-    if hub.count() == 0 {
-        return None;
-    }
-    hub.next_closed()
-}
-
-/// Notes a Closed event and gives it. The connection's intake is shut where it is no entry any more.
+/// Notes a Closed event that was handed out, and gives it. The connection's intake is shut where it is no entry any more.
 fn close<N: Net, W: Watch, H: Handler>(
     hub: &mut Hub,
     intakes: &mut Intakes,
@@ -115,26 +84,17 @@ fn close<N: Net, W: Watch, H: Handler>(
     handler: &mut H,
     parting: &Parting,
 )
-    requires running { Running Every intakes.old (server hub.old (N.state out.old.net) (W.told out.old.watch)) }
-    ensures running { Running Every intakes.new (server hub.new (N.state out.new.net) (W.told out.new.watch)) }
-    ensures steps { Steps Every (server hub.old (N.state out.old.net) (W.told out.old.watch)) (server hub.new (N.state out.new.net) (W.told out.new.watch)) }
-    ensures grows { Grows (server hub.old (N.state out.old.net) (W.told out.old.watch)) (server hub.new (N.state out.new.net) (W.told out.new.watch)) }
-    ensures kept { (start : H.State) (config : ConfigValue) (table : RouteTable) (views : ℕ → IntakeView) (before : HubState) → TakesDue (Some (parting_value parting.now)) (table_of before) (table_of hub.old) → Appends nothing (server before (N.state out.old.net) (W.told out.old.watch)) (server hub.old (N.state out.old.net) (W.told out.old.watch)) → is_admitted intakes.old parting.now.conn.0 ≡ true → AreViews intakes.old views → KeptAll start H.after H.said config table (server before (N.state out.old.net) (W.told out.old.watch)) (H.state handler.old) views None → AreViews intakes.new views × KeptAll start H.after H.said config table (server hub.new (N.state out.new.net) (W.told out.new.watch)) (H.state handler.new) views None }
+    requires running { Running Every intakes.old (at N.Net W.Watch hub.old out.old) }
+    ensures running { Running Every intakes.new (at N.Net W.Watch hub.new out.new) }
+    ensures steps { Steps Every (at N.Net W.Watch hub.old out.old) (at N.Net W.Watch hub.new out.new) }
+    ensures kept { let seen = moment N.Net W.Watch H.Handler in
+        (before : HubState) → HandsOut (parting_value parting.now) intakes.old before (at N.Net W.Watch hub.old out.old) → (table : RouteTable) →
+        Keeps table intakes.old intakes.new (with_hub before (seen hub.old out.old handler.old)) (seen hub.new out.new handler.new) }
 {
     give_closed(hub, intakes, out, handler, parting);
-    if !is_entry(hub, parting.conn) {
+    if hub.phase(parting.conn).is_none() {
         intakes.shut(parting.conn);
     }
-}
-
-/// Whether a connection is an entry.
-fn is_entry(hub: &Hub, conn: Conn) -> bool
-    ensures { result ≡ is_kept_at hub.now conn.0 }
-{
-    if hub.count() == 0 {
-        return false;
-    }
-    hub.phase(conn).is_some()
 }
 
 /// Notes a Closed event, and gives it with the route and the parameter of the connection's intake.
@@ -145,16 +105,11 @@ fn give_closed<N: Net, W: Watch, H: Handler>(
     handler: &mut H,
     parting: &Parting,
 )
-    requires ties { Ties (server hub.old (N.state out.old.net) (W.told out.old.watch)) }
-    ensures ties { Ties (server hub.new (N.state out.new.net) (W.told out.new.watch)) }
-    ensures state { (intake : _) → intake_at intakes.now parting.now.conn.0 ≡ Some intake
-        → H.state handler.new ≡ H.after (H.state handler.old) (record { conn = parting.now.conn.0; route = intake.route; param = intake.param.items; what = event.closed parting.now.code parting.now.reason.items }) }
-    ensures gives { (intake : _) → intake_at intakes.now parting.now.conn.0 ≡ Some intake
-        → Gives parting.now.conn.0 (note.closed parting.now.conn.0 parting.now.code parting.now.reason.items)
-        (H.said (H.state handler.new) (record { conn = parting.now.conn.0; route = intake.route; param = intake.param.items; what = event.closed parting.now.code parting.now.reason.items })) (server hub.old (N.state out.old.net) (W.told out.old.watch)) (server hub.new (N.state out.new.net) (W.told out.new.watch)) }
-    ensures steps { Steps Every (server hub.old (N.state out.old.net) (W.told out.old.watch)) (server hub.new (N.state out.new.net) (W.told out.new.watch)) }
-    ensures grows { Grows (server hub.old (N.state out.old.net) (W.told out.old.watch)) (server hub.new (N.state out.new.net) (W.told out.new.watch)) }
-    ensures kept { (start : H.State) (config : ConfigValue) (table : RouteTable) (views : ℕ → IntakeView) (before : HubState) → TakesDue (Some (parting_value parting.now)) (table_of before) (table_of hub.old) → Appends nothing (server before (N.state out.old.net) (W.told out.old.watch)) (server hub.old (N.state out.old.net) (W.told out.old.watch)) → is_admitted intakes.now parting.now.conn.0 ≡ true → AreViews intakes.now views → KeptAll start H.after H.said config table (server before (N.state out.old.net) (W.told out.old.watch)) (H.state handler.old) views None → KeptAll start H.after H.said config table (server hub.new (N.state out.new.net) (W.told out.new.watch)) (H.state handler.new) views None }
+    requires ties { Ties (at N.Net W.Watch hub.old out.old) }
+    ensures steps { Steps Every (at N.Net W.Watch hub.old out.old) (at N.Net W.Watch hub.new out.new) }
+    ensures kept { let seen = moment N.Net W.Watch H.Handler in
+        (before : HubState) → HandsOut (parting_value parting.now) intakes.now before (at N.Net W.Watch hub.old out.old) → (table : RouteTable) →
+        Keeps table intakes.now intakes.now (with_hub before (seen hub.old out.old handler.old)) (seen hub.new out.new handler.new) }
 {
     let conn = parting.conn;
     let code = parting.code;

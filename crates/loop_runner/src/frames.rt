@@ -1,22 +1,22 @@
 //! The frames of a connection in phase Open or Leaving.
 
-ghost use Rattle.std.specs.Prelude.{◌≡◌, ◌<◌, ℕ, [], true, false, length, Some, None, if◌then◌else◌};
+ghost use Rattle.std.specs.Prelude.{◌≡◌, ◌<◌, ℕ, List, [], true, false, length, Some, None, if◌then◌else◌};
 ghost use Rattle.ws_kinds.specs.NoteValue as note;
 ghost use Rattle.ws_kinds.specs.EventValue as event;
-ghost use Rattle.run_meaning.specs.Settled.{is_reading};
+ghost use Rattle.route_table.specs.Table.{RouteTable};
 ghost use Rattle.frame_reader.specs.Reader.{ahead, max_of};
-ghost use Rattle.frame_reader.specs.Step.{events_of, is_last, IsMore, HasStepped};
-ghost use Rattle.hub_lines.specs.State.{server, phase_at};
+ghost use Rattle.frame_reader.specs.Step.{events_of, is_last, IsMore};
+ghost use Rattle.run_meaning.specs.Settled.{is_reading};
+ghost use Rattle.hub_lines.specs.State.{phase_at};
 ghost use Rattle.hub_lines.specs.Calls.{Ties};
-ghost use Rattle.hub_table.specs.Table.{IsTable, table_of};
+ghost use Rattle.hub_notes.specs.Table.{IsTable, table_of};
+ghost use Rattle.hub_core.specs.At.{at};
+ghost use Rattle.run_laws.specs.Readers.{ReaderView, IsRead};
 ghost use Rattle.loop_runner.specs.Events.{AreSound};
 ghost use Rattle.loop_runner.specs.Ready.{IsTaken};
-ghost use Rattle.loop_runner.specs.Steps.{Every, Steps, Gives, HasFrames};
-ghost use Rattle.ws_kinds.specs.ConfigValue.{ConfigValue};
-ghost use Rattle.route_table.specs.Table.{RouteTable};
-ghost use Rattle.run_kept.specs.Kept.{IntakeView};
-ghost use Rattle.loop_runner.specs.Keeps.{Grows, KeptAll, view_of, intake_view, with_view, AreViews};
-ghost use Rattle.frame_reader.specs.declared.reader.Reader.{Reader as ReaderValue};
+ghost use Rattle.loop_runner.specs.Steps.{Every, Steps, HasFrames};
+ghost use Rattle.loop_runner.specs.Keeps.{view_by, view_of};
+ghost use Rattle.loop_runner.specs.Moments.{moment, Gives, KeepsView};
 
 use crate::giving::give;
 use frame_reader::{Reader, Step};
@@ -36,13 +36,12 @@ pub(crate) fn read_frames<N: Net, W: Watch, H: Handler>(
     param: &[u8],
 )
     requires frames { HasFrames (phase_at hub.old conn.0) reader.old }
-    requires ties { Ties (server hub.old (N.state out.old.net) (W.told out.old.watch)) }
-    ensures ties { Ties (server hub.new (N.state out.new.net) (W.told out.new.watch)) }
-    ensures steps { Steps Every (server hub.old (N.state out.old.net) (W.told out.old.watch)) (server hub.new (N.state out.new.net) (W.told out.new.watch)) }
+    requires ties { Ties (at N.Net W.Watch hub.old out.old) }
+    ensures steps { Steps Every (at N.Net W.Watch hub.old out.old) (at N.Net W.Watch hub.new out.new) }
     ensures taken { IsTaken (phase_at hub.new conn.0) reader.new }
     ensures max { max_of reader.new ≡ max_of reader.old }
-    ensures grows { Grows (server hub.old (N.state out.old.net) (W.told out.old.watch)) (server hub.new (N.state out.new.net) (W.told out.new.watch)) }
-    ensures kept { (start : H.State) (config : ConfigValue) (table : RouteTable) (views : ℕ → IntakeView) → views conn.0 ≡ view_of reader.old route param.now → KeptAll start H.after H.said config table (server hub.old (N.state out.old.net) (W.told out.old.watch)) (H.state handler.old) views (Some conn.0) → KeptAll start H.after H.said config table (server hub.new (N.state out.new.net) (W.told out.new.watch)) (H.state handler.new) (with_view conn.0 (view_of reader.new route param.now) views) None }
+    ensures kept { let seen = moment N.Net W.Watch H.Handler in (table : RouteTable) →
+        KeepsView table conn.0 (Some conn.0) None (view_of reader.old route param.now) (view_of reader.new route param.now) (seen hub.old out.old handler.old) (seen hub.new out.new handler.new) }
 {
     'steps: loop {
         if !read_frame(hub, reader, out, handler, conn, route, param) {
@@ -62,19 +61,18 @@ fn read_frame<N: Net, W: Watch, H: Handler>(
     param: &[u8],
 ) -> bool
     requires frames { HasFrames (phase_at hub.old conn.0) reader.old }
-    requires ties { Ties (server hub.old (N.state out.old.net) (W.told out.old.watch)) }
-    ensures ties { Ties (server hub.new (N.state out.new.net) (W.told out.new.watch)) }
-    ensures steps { Steps Every (server hub.old (N.state out.old.net) (W.told out.old.watch)) (server hub.new (N.state out.new.net) (W.told out.new.watch)) }
+    requires ties { Ties (at N.Net W.Watch hub.old out.old) }
+    ensures steps { Steps Every (at N.Net W.Watch hub.old out.old) (at N.Net W.Watch hub.new out.new) }
     ensures taken { result ≡ false → IsTaken (phase_at hub.new conn.0) reader.new }
     ensures frames { result ≡ true → HasFrames (phase_at hub.new conn.0) reader.new }
     ensures fewer { result ≡ true → length (ahead reader.new []) < length (ahead reader.old []) }
     ensures max { max_of reader.new ≡ max_of reader.old }
-    ensures grows { Grows (server hub.old (N.state out.old.net) (W.told out.old.watch)) (server hub.new (N.state out.new.net) (W.told out.new.watch)) }
-    ensures kept { (start : H.State) (config : ConfigValue) (table : RouteTable) (views : ℕ → IntakeView) → views conn.0 ≡ view_of reader.old route param.now → KeptAll start H.after H.said config table (server hub.old (N.state out.old.net) (W.told out.old.watch)) (H.state handler.old) views (Some conn.0) → KeptAll start H.after H.said config table (server hub.new (N.state out.new.net) (W.told out.new.watch)) (H.state handler.new) (with_view conn.0 (view_of reader.new route param.now) views) (if result then Some conn.0 else None) }
+    ensures kept { let seen = moment N.Net W.Watch H.Handler in let to = if result then Some conn.0 else None in (table : RouteTable) →
+        KeepsView table conn.0 (Some conn.0) to (view_of reader.old route param.now) (view_of reader.new route param.now) (seen hub.old out.old handler.old) (seen hub.new out.new handler.new) }
 {
     match hub.phase(conn) {
         Some(Phase::Open) => take_open(hub, out, handler, conn, route, param, reader.next()),
-        Some(Phase::Leaving) => take_leaving(hub, out, conn, reader.next()),
+        Some(Phase::Leaving) => take_leaving(hub, out, handler, conn, reader.next()),
         Some(Phase::Head) => false,
         Some(Phase::Ending) => false,
         Some(Phase::Gone) => false,
@@ -94,14 +92,14 @@ fn take_open<N: Net, W: Watch, H: Handler>(
 ) -> bool
     requires phase { phase_at hub.old conn.0 ≡ Some Phase.Open }
     requires sound { AreSound (events_of step) }
-    requires ties { Ties (server hub.old (N.state out.old.net) (W.told out.old.watch)) }
-    ensures ties { Ties (server hub.new (N.state out.new.net) (W.told out.new.watch)) }
-    ensures steps { Steps Every (server hub.old (N.state out.old.net) (W.told out.old.watch)) (server hub.new (N.state out.new.net) (W.told out.new.watch)) }
+    requires ties { Ties (at N.Net W.Watch hub.old out.old) }
+    ensures steps { Steps Every (at N.Net W.Watch hub.old out.old) (at N.Net W.Watch hub.new out.new) }
     ensures told { result ≡ true → IsMore step.entry → ⊥ }
     ensures more { result ≡ false → IsMore step.entry }
     ensures last { is_last step.entry ≡ true → is_reading (phase_at hub.new conn.0) ≡ false }
-    ensures grows { Grows (server hub.old (N.state out.old.net) (W.told out.old.watch)) (server hub.new (N.state out.new.net) (W.told out.new.watch)) }
-    ensures kept { (start : H.State) (config : ConfigValue) (table : RouteTable) (views : ℕ → IntakeView) (before after : ReaderValue) → HasStepped before step.entry after → views conn.0 ≡ view_of before route param.now → KeptAll start H.after H.said config table (server hub.old (N.state out.old.net) (W.told out.old.watch)) (H.state handler.old) views (Some conn.0) → KeptAll start H.after H.said config table (server hub.new (N.state out.new.net) (W.told out.new.watch)) (H.state handler.new) (with_view conn.0 (view_of after route param.now) views) (if result then Some conn.0 else None) }
+    ensures kept { let seen = moment N.Net W.Watch H.Handler in let to = if result then Some conn.0 else None in
+        (table : RouteTable) (before after : ReaderView) → IsRead before (events_of step.entry) after →
+        KeepsView table conn.0 (Some conn.0) to (view_by before route param.now) (view_by after route param.now) (seen hub.old out.old handler.old) (seen hub.new out.new handler.new) }
 {
     match step {
         Step::More => false,
@@ -129,21 +127,24 @@ fn take_open<N: Net, W: Watch, H: Handler>(
 }
 
 /// Takes a step of a connection that is leaving, of which only a close and a failure count. Answers whether it told something.
-fn take_leaving<N: Net, W: Watch>(
+/// The handler is not asked: it stands here for what is kept beside its state.
+fn take_leaving<N: Net, W: Watch, H: Handler>(
     hub: &mut Hub,
     out: &mut Outside<N, W>,
+    handler: &H,
     conn: Conn,
     step: Step<'_>,
 ) -> bool
     requires phase { phase_at hub.old conn.0 ≡ Some Phase.Leaving }
     requires sound { AreSound (events_of step) }
-    requires ties { Ties (server hub.old (N.state out.old.net) (W.told out.old.watch)) }
-    ensures ties { Ties (server hub.new (N.state out.new.net) (W.told out.new.watch)) }
-    ensures steps { Steps Every (server hub.old (N.state out.old.net) (W.told out.old.watch)) (server hub.new (N.state out.new.net) (W.told out.new.watch)) }
+    requires ties { Ties (at N.Net W.Watch hub.old out.old) }
+    ensures steps { Steps Every (at N.Net W.Watch hub.old out.old) (at N.Net W.Watch hub.new out.new) }
     ensures told { result ≡ true → IsMore step.entry → ⊥ }
     ensures more { result ≡ false → IsMore step.entry }
     ensures last { is_last step.entry ≡ true → is_reading (phase_at hub.new conn.0) ≡ false }
-    ensures grows { Grows (server hub.old (N.state out.old.net) (W.told out.old.watch)) (server hub.new (N.state out.new.net) (W.told out.new.watch)) }
+    ensures kept { let seen = moment N.Net W.Watch H.Handler in let to = if result then Some conn.0 else None in
+        (table : RouteTable) (before after : ReaderView) (route : ℕ) (param : List ℕ) → IsRead before (events_of step.entry) after →
+        KeepsView table conn.0 (Some conn.0) to (view_by before route param) (view_by after route param) (seen hub.old out.old handler.now) (seen hub.new out.new handler.now) }
 {
     match step {
         Step::More => false,
@@ -172,12 +173,11 @@ fn give_message<'m, N: Net, W: Watch, H: Handler>(
     kind: Kind,
     body: &'m [u8],
 )
-    requires ties { Ties (server hub.old (N.state out.old.net) (W.told out.old.watch)) }
-    ensures ties { Ties (server hub.new (N.state out.new.net) (W.told out.new.watch)) }
-    ensures state { H.state handler.new ≡ H.after (H.state handler.old) (record { conn = conn.0; route = route; param = param.now; what = event.message kind body.now }) }
-    ensures gives { Gives conn.0 (note.message conn.0 kind body.now) (H.said (H.state handler.new) (record { conn = conn.0; route = route; param = param.now; what = event.message kind body.now })) (server hub.old (N.state out.old.net) (W.told out.old.watch)) (server hub.new (N.state out.new.net) (W.told out.new.watch)) }
-    ensures steps { Steps Every (server hub.old (N.state out.old.net) (W.told out.old.watch)) (server hub.new (N.state out.new.net) (W.told out.new.watch)) }
-    ensures grows { Grows (server hub.old (N.state out.old.net) (W.told out.old.watch)) (server hub.new (N.state out.new.net) (W.told out.new.watch)) }
+    requires ties { Ties (at N.Net W.Watch hub.old out.old) }
+    ensures gives { let seen = moment N.Net W.Watch H.Handler in
+        Gives (note.message conn.0 kind body.now) (record { conn = conn.0; route = route; param = param.now; what = event.message kind body.now })
+        (seen hub.old out.old handler.old) (seen hub.new out.new handler.new) }
+    ensures steps { Steps Every (at N.Net W.Watch hub.old out.old) (at N.Net W.Watch hub.new out.new) }
     ensures table { IsTable (table_of hub.new) }
 {
     out.watch.note(&Note::Message { conn, kind, body });

@@ -2,12 +2,11 @@
 
 ghost use Rattle.std.specs.Prelude.{◌≡◌};
 ghost use Rattle.ws_kinds.specs.EventValue.{event_value};
-ghost use Rattle.hub_lines.specs.State.{server};
 ghost use Rattle.hub_lines.specs.Calls.{Ties};
-ghost use Rattle.hub_table.specs.Table.{IsTable, table_of};
-ghost use Rattle.hub_core.specs.Orders.{ServesAll};
+ghost use Rattle.hub_core.specs.At.{at};
+ghost use Rattle.hub_notes.specs.Table.{IsTable, table_of};
 ghost use Rattle.loop_runner.specs.Steps.{Every, Steps};
-ghost use Rattle.loop_runner.specs.Keeps.{Grows};
+ghost use Rattle.loop_runner.specs.Moments.{ServesOrders};
 
 use hub_core::Hub;
 use link_trait::{Net, Outside};
@@ -20,11 +19,9 @@ fn answer<'m, N: Net, W: Watch, H: Handler>(
     handler: &'m H,
     event: Event<'m>,
 )
-    requires ties { Ties (server hub.old (N.state out.old.net) (W.told out.old.watch)) }
-    ensures ties { Ties (server hub.new (N.state out.new.net) (W.told out.new.watch)) }
-    ensures serves { ServesAll event.entry.conn.0 0 (H.said (H.state handler.now) (event_value event.entry)) (server hub.old (N.state out.old.net) (W.told out.old.watch)) (server hub.new (N.state out.new.net) (W.told out.new.watch)) }
-    ensures steps { Steps Every (server hub.old (N.state out.old.net) (W.told out.old.watch)) (server hub.new (N.state out.new.net) (W.told out.new.watch)) }
-    ensures grows { Grows (server hub.old (N.state out.old.net) (W.told out.old.watch)) (server hub.new (N.state out.new.net) (W.told out.new.watch)) }
+    requires ties { Ties (at N.Net W.Watch hub.old out.old) }
+    ensures serves { let seen = at N.Net W.Watch in ServesOrders event.entry.conn.0 (H.said (H.state handler.now) (event_value event.entry)) (seen hub.old out.old) (seen hub.new out.new) }
+    ensures steps { Steps Every (at N.Net W.Watch hub.old out.old) (at N.Net W.Watch hub.new out.new) }
     ensures table { IsTable (table_of hub.new) }
 {
     let mut orders = Orders::new();
@@ -39,12 +36,10 @@ pub(crate) fn give<N: Net, W: Watch, H: Handler>(
     handler: &mut H,
     event: Event<'_>,
 )
-    requires ties { Ties (server hub.old (N.state out.old.net) (W.told out.old.watch)) }
-    ensures ties { Ties (server hub.new (N.state out.new.net) (W.told out.new.watch)) }
+    requires ties { Ties (at N.Net W.Watch hub.old out.old) }
     ensures state { H.state handler.new ≡ H.after (H.state handler.old) (event_value event.entry) }
-    ensures serves { ServesAll event.entry.conn.0 0 (H.said (H.state handler.new) (event_value event.entry)) (server hub.old (N.state out.old.net) (W.told out.old.watch)) (server hub.new (N.state out.new.net) (W.told out.new.watch)) }
-    ensures steps { Steps Every (server hub.old (N.state out.old.net) (W.told out.old.watch)) (server hub.new (N.state out.new.net) (W.told out.new.watch)) }
-    ensures grows { Grows (server hub.old (N.state out.old.net) (W.told out.old.watch)) (server hub.new (N.state out.new.net) (W.told out.new.watch)) }
+    ensures serves { let seen = at N.Net W.Watch in ServesOrders event.entry.conn.0 (H.said (H.state handler.new) (event_value event.entry)) (seen hub.old out.old) (seen hub.new out.new) }
+    ensures steps { Steps Every (at N.Net W.Watch hub.old out.old) (at N.Net W.Watch hub.new out.new) }
     ensures table { IsTable (table_of hub.new) }
 {
     handler.on(event);

@@ -1,19 +1,19 @@
 //! Reading the octets of a connection.
 
 ghost use Rattle.std.specs.Prelude.{◌≡◌, ◌≤◌, true, false, Some, length, ℕ, None, List, take};
-ghost use Rattle.run_meaning.specs.Settled.{is_reading};
-ghost use Rattle.frame_reader.specs.Reader.{room_of, max_of};
-ghost use Rattle.hub_lines.specs.State.{server, phase_at};
-ghost use Rattle.hub_lines.specs.Calls.{Ties};
-ghost use Rattle.loop_runner.specs.Intakes.{intake_at};
-ghost use Rattle.loop_runner.specs.Ready.{IsTaken, IsAsked};
-ghost use Rattle.loop_runner.specs.Steps.{Every, But, Steps, Running, HasFrames};
-ghost use Rattle.ws_kinds.specs.ConfigValue.{ConfigValue};
-ghost use Rattle.route_table.specs.Table.{RouteTable};
-ghost use Rattle.run_kept.specs.Kept.{IntakeView};
-ghost use Rattle.loop_runner.specs.Keeps.{Grows, KeptAll, view_of, intake_view, with_view, AreViews};
 ghost use Rattle.link_trait.specs.NetState.{NetState};
 ghost use Rattle.link_trait.specs.Net.{Reads};
+ghost use Rattle.route_table.specs.Table.{RouteTable};
+ghost use Rattle.frame_reader.specs.Reader.{room_of};
+ghost use Rattle.run_meaning.specs.Settled.{is_reading};
+ghost use Rattle.hub_lines.specs.State.{phase_at};
+ghost use Rattle.hub_lines.specs.Calls.{Ties};
+ghost use Rattle.hub_core.specs.At.{at};
+ghost use Rattle.loop_runner.specs.Intakes.{intake_at};
+ghost use Rattle.loop_runner.specs.Ready.{IsTaken};
+ghost use Rattle.loop_runner.specs.Steps.{Every, But, Steps, Takes, Running, HasFrames};
+ghost use Rattle.loop_runner.specs.Keeps.{intake_view};
+ghost use Rattle.loop_runner.specs.Moments.{moment, with_net, Keeps, KeepsView};
 
 use crate::admitting::judge_head;
 use crate::frames::read_frames;
@@ -36,11 +36,10 @@ pub(crate) fn readable<N: Net, W: Watch, H: Handler>(
     conn: Conn,
 )
     requires taken { (intake : _) → intake_at intakes.old conn.0 ≡ Some intake → IsTaken (phase_at hub.old conn.0) intake.reader }
-    requires running { Running (But conn.0) intakes.old (server hub.old (N.state out.old.net) (W.told out.old.watch)) }
-    ensures running { Running Every intakes.new (server hub.new (N.state out.new.net) (W.told out.new.watch)) }
-    ensures steps { Steps (But conn.0) (server hub.old (N.state out.old.net) (W.told out.old.watch)) (server hub.new (N.state out.new.net) (W.told out.new.watch)) }
-    ensures grows { Grows (server hub.old (N.state out.old.net) (W.told out.old.watch)) (server hub.new (N.state out.new.net) (W.told out.new.watch)) }
-    ensures kept { (start : H.State) (config : ConfigValue) (views : ℕ → IntakeView) → AreViews intakes.old views → KeptAll start H.after H.said config routes.now (server hub.old (N.state out.old.net) (W.told out.old.watch)) (H.state handler.old) views None → (later : ℕ → IntakeView) × AreViews intakes.new later × KeptAll start H.after H.said config routes.now (server hub.new (N.state out.new.net) (W.told out.new.watch)) (H.state handler.new) later None }
+    requires running { Running (But conn.0) intakes.old (at N.Net W.Watch hub.old out.old) }
+    ensures running { Running Every intakes.new (at N.Net W.Watch hub.new out.new) }
+    ensures steps { Steps (But conn.0) (at N.Net W.Watch hub.old out.old) (at N.Net W.Watch hub.new out.new) }
+    ensures kept { let seen = moment N.Net W.Watch H.Handler in Keeps routes.now intakes.old intakes.new (seen hub.old out.old handler.old) (seen hub.new out.new handler.new) }
 {
     if !is_read(hub, conn) {
         return;
@@ -75,14 +74,10 @@ fn read<N: Net, W: Watch, H: Handler>(
 )
     requires reading { is_reading (phase_at hub.old conn.0) ≡ true }
     requires taken { IsTaken (phase_at hub.old conn.0) intake.old.reader }
-    requires ties { Ties (server hub.old (N.state out.old.net) (W.told out.old.watch)) }
-    ensures ties { Ties (server hub.new (N.state out.new.net) (W.told out.new.watch)) }
-    ensures steps { Steps (But conn.0) (server hub.old (N.state out.old.net) (W.told out.old.watch)) (server hub.new (N.state out.new.net) (W.told out.new.watch)) }
-    ensures asked { IsAsked conn.0 (server hub.new (N.state out.new.net) (W.told out.new.watch)) }
-    ensures taken { IsTaken (phase_at hub.new conn.0) intake.new.reader }
-    ensures max { max_of intake.new.reader ≡ max_of intake.old.reader }
-    ensures grows { Grows (server hub.old (N.state out.old.net) (W.told out.old.watch)) (server hub.new (N.state out.new.net) (W.told out.new.watch)) }
-    ensures kept { (start : H.State) (config : ConfigValue) (views : ℕ → IntakeView) → views conn.0 ≡ intake_view intake.old → KeptAll start H.after H.said config routes.now (server hub.old (N.state out.old.net) (W.told out.old.watch)) (H.state handler.old) views None → KeptAll start H.after H.said config routes.now (server hub.new (N.state out.new.net) (W.told out.new.watch)) (H.state handler.new) (with_view conn.0 (intake_view intake.new) views) None }
+    requires ties { Ties (at N.Net W.Watch hub.old out.old) }
+    ensures takes { Takes conn.0 intake.old.reader intake.new.reader (at N.Net W.Watch hub.old out.old) (at N.Net W.Watch hub.new out.new) }
+    ensures kept { let seen = moment N.Net W.Watch H.Handler in
+        KeepsView routes.now conn.0 None None (intake_view intake.old) (intake_view intake.new) (seen hub.old out.old handler.old) (seen hub.new out.new handler.new) }
 {
     let mut space = [0; MOST_OCTETS];
     let most = intake.reader.room().min(MOST_OCTETS);
@@ -109,14 +104,11 @@ fn take<N: Net, W: Watch, H: Handler>(
     requires reading { is_reading (phase_at hub.old conn.0) ≡ true }
     requires taken { IsTaken (phase_at hub.old conn.0) intake.old.reader }
     requires asked { (N.state out.old.net).due conn.0 ≡ false }
-    requires ties { Ties (server hub.old (N.state out.old.net) (W.told out.old.watch)) }
-    ensures ties { Ties (server hub.new (N.state out.new.net) (W.told out.new.watch)) }
-    ensures steps { Steps (But conn.0) (server hub.old (N.state out.old.net) (W.told out.old.watch)) (server hub.new (N.state out.new.net) (W.told out.new.watch)) }
-    ensures asked { IsAsked conn.0 (server hub.new (N.state out.new.net) (W.told out.new.watch)) }
-    ensures taken { IsTaken (phase_at hub.new conn.0) intake.new.reader }
-    ensures max { max_of intake.new.reader ≡ max_of intake.old.reader }
-    ensures grows { Grows (server hub.old (N.state out.old.net) (W.told out.old.watch)) (server hub.new (N.state out.new.net) (W.told out.new.watch)) }
-    ensures kept { (start : H.State) (config : ConfigValue) (views : ℕ → IntakeView) (space : List ℕ) (before : NetState) → take (length octets.now) space ≡ octets.now → Reads conn.0 space (NetRead.Octets (length octets.now)) before (N.state out.old.net) → views conn.0 ≡ intake_view intake.old → KeptAll start H.after H.said config routes.now (server hub.old before (W.told out.old.watch)) (H.state handler.old) views None → KeptAll start H.after H.said config routes.now (server hub.new (N.state out.new.net) (W.told out.new.watch)) (H.state handler.new) (with_view conn.0 (intake_view intake.new) views) None }
+    requires ties { Ties (at N.Net W.Watch hub.old out.old) }
+    ensures takes { Takes conn.0 intake.old.reader intake.new.reader (at N.Net W.Watch hub.old out.old) (at N.Net W.Watch hub.new out.new) }
+    ensures kept { let seen = moment N.Net W.Watch H.Handler in
+        (space : List ℕ) (before : NetState) → take (length octets.now) space ≡ octets.now → Reads conn.0 space (NetRead.Octets (length octets.now)) before (N.state out.old.net) →
+        KeepsView routes.now conn.0 None None (intake_view intake.old) (intake_view intake.new) (with_net before (seen hub.old out.old handler.old)) (seen hub.new out.new handler.new) }
 {
     hub.given(out, conn, octets.len() as u64);
     intake.reader.feed(octets);
@@ -138,14 +130,10 @@ fn go_on<N: Net, W: Watch, H: Handler>(
 )
     requires frames { HasFrames (phase_at hub.old conn.0) intake.old.reader }
     requires asked { (N.state out.old.net).due conn.0 ≡ false }
-    requires ties { Ties (server hub.old (N.state out.old.net) (W.told out.old.watch)) }
-    ensures ties { Ties (server hub.new (N.state out.new.net) (W.told out.new.watch)) }
-    ensures steps { Steps (But conn.0) (server hub.old (N.state out.old.net) (W.told out.old.watch)) (server hub.new (N.state out.new.net) (W.told out.new.watch)) }
-    ensures asked { IsAsked conn.0 (server hub.new (N.state out.new.net) (W.told out.new.watch)) }
-    ensures taken { IsTaken (phase_at hub.new conn.0) intake.new.reader }
-    ensures max { max_of intake.new.reader ≡ max_of intake.old.reader }
-    ensures grows { Grows (server hub.old (N.state out.old.net) (W.told out.old.watch)) (server hub.new (N.state out.new.net) (W.told out.new.watch)) }
-    ensures kept { (start : H.State) (config : ConfigValue) (table : RouteTable) (views : ℕ → IntakeView) → views conn.0 ≡ intake_view intake.old → KeptAll start H.after H.said config table (server hub.old (N.state out.old.net) (W.told out.old.watch)) (H.state handler.old) views (Some conn.0) → KeptAll start H.after H.said config table (server hub.new (N.state out.new.net) (W.told out.new.watch)) (H.state handler.new) (with_view conn.0 (intake_view intake.new) views) None }
+    requires ties { Ties (at N.Net W.Watch hub.old out.old) }
+    ensures takes { Takes conn.0 intake.old.reader intake.new.reader (at N.Net W.Watch hub.old out.old) (at N.Net W.Watch hub.new out.new) }
+    ensures kept { let seen = moment N.Net W.Watch H.Handler in (table : RouteTable) →
+        KeepsView table conn.0 (Some conn.0) None (intake_view intake.old) (intake_view intake.new) (seen hub.old out.old handler.old) (seen hub.new out.new handler.new) }
 {
     read_frames(
         hub,

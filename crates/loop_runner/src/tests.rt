@@ -2,11 +2,12 @@
 
 ghost use Rattle.std.specs.Prelude.{◌≡◌};
 ghost use Rattle.std.specs.List.{list_all};
-ghost use Rattle.link_trait.specs.Schedule as spec;
+ghost use Rattle.mem_net.specs.Schedule as spec;
 
 use super::*;
 use hub_core::Hub;
-use link_trait::{Act, MemNet, Outside, Schedule};
+use link_trait::{Act, Outside};
+use mem_net::{MemNet, Schedule};
 use route_table::Routes;
 use std::process::Abort;
 use std::test::*;
@@ -30,9 +31,6 @@ const REPLY: &[u8] =
 const HELLO: &[u8] = b"\x81\x85\x37\xfa\x21\x3d\x7f\x9f\x4d\x51\x58";
 
 const HELLO_BACK: &[u8] = b"\x81\x05Hello";
-
-/// A masked close frame with code 1001 and no reason.
-const GOING_AWAY: &[u8] = b"\x88\x82\x00\x00\x00\x00\x03\xe9";
 
 /// A handler that sends each message of route 0 back.
 #[derive(Drop)]
@@ -111,17 +109,35 @@ impl Handler for EverySecond {
     }
 }
 
-fn arrive(conn: Conn) -> Act {
-    Act::Arrive { conn, credit: None }
+/// An act of a schedule.
+#[derive(Clone, Copy)]
+enum Row<'a> {
+    Arrive(Conn),
+    Octets(Conn, &'a [u8]),
+    End(Conn),
+    Turn,
+    Tick,
 }
 
-fn octets(rt: &HostRuntime, conn: Conn, octets: &[u8]) -> Result<Act, Fail> {
-    let octets = Bytes::of(rt.alloc(), octets).ok().ok_or("memory")?;
-    Ok(Act::Octets { conn, octets })
+fn act_of(rt: &HostRuntime, row: Row<'_>) -> Result<Act, Fail> {
+    match row {
+        Row::Arrive(conn) => Ok(Act::Arrive { conn, credit: None }),
+        Row::Octets(conn, octets) => {
+            let octets = Bytes::of(rt.alloc(), octets).ok().ok_or("memory")?;
+            Ok(Act::Octets { conn, octets })
+        }
+        Row::End(conn) => Ok(Act::End(conn)),
+        Row::Turn => Ok(Act::Turn),
+        Row::Tick => Ok(Act::Tick),
+    }
 }
 
-fn push(schedule: &mut Schedule, act: Act) -> Result<(), Fail> {
-    Ok(schedule.push(act).ok().ok_or("memory")?)
+fn schedule_of(rt: &HostRuntime, rows: &[Row<'_>]) -> Result<Schedule, Fail> {
+    let mut schedule = Schedule::new(rt.alloc());
+    for row in rows {
+        schedule.push(act_of(rt, *row)?).ok().ok_or("memory")?;
+    }
+    Ok(schedule)
 }
 
 fn is_plain(act: &Act) -> bool
@@ -140,65 +156,37 @@ fn are_plain(acts: &[Act]) -> bool
     acts.iter().all(|act| is_plain(act))
 }
 
-fn follow(rt: &HostRuntime, schedule: Schedule) -> Result<MemNet, Fail> {
+/// A net that follows these acts.
+fn net_of(rt: &HostRuntime, rows: &[Row<'_>]) -> Result<MemNet, Fail> {
+    let schedule = schedule_of(rt, rows)?;
     if !schedule.sound() || !are_plain(schedule.acts()) {
         return Err(Fail::new("the schedule"));
     }
     Ok(MemNet::new(rt.alloc(), schedule).ok().ok_or("memory")?)
 }
 
-/// Runs an echo with one route over a schedule.
-fn run_echo(
-    rt: &HostRuntime,
-    max_conns: u32,
-    schedule: Schedule,
-    turns: u64,
-) -> Result<(Outside<MemNet, Recorder>, Ran), Fail> {
-    run_with(rt, &mut Echo, max_conns, schedule, turns)
-}
-
-/// Runs a handler with one route over a schedule.
+/// Runs a handler with one route over these acts.
 fn run_with<H: Handler>(
     rt: &HostRuntime,
     handler: &mut H,
     max_conns: u32,
-    schedule: Schedule,
+    rows: &[Row<'_>],
     turns: u64,
 ) -> Result<(Outside<MemNet, Recorder>, Ran), Fail> {
     let config = Config::checked(16_384, 65_536, 30, 60, 10, max_conns).ok_or("a configuration")?;
-    let mut hub = Hub::new(rt.alloc(), config).ok().ok_or("memory")?;
+    let Ok(mut hub) = Hub::new(rt.alloc(), config) else {
+        return Err(Fail::new("memory"));
+    };
     let mut intakes = Intakes::new(rt.alloc(), config.max_message());
     let mut routes = Routes::new(rt.alloc());
     routes.add("/echo", b"").ok().ok_or("the route")?;
     let mut out = Outside {
-        net: follow(rt, schedule)?,
+        net: net_of(rt, rows)?,
         watch: Recorder::new(rt.alloc()),
         tally: Tally::new(),
     };
     let ran = run(&mut hub, &mut intakes, &routes, &mut out, handler, turns);
     Ok((out, ran))
-}
-
-/// Makes three turns with one route over a schedule, each by itself.
-fn three_turns_with<H: Handler>(
-    rt: &HostRuntime,
-    handler: &mut H,
-    schedule: Schedule,
-) -> Result<(Outside<MemNet, Recorder>, [Turned; 3]), Fail> {
-    let config = Config::usual();
-    let mut hub = Hub::new(rt.alloc(), config).ok().ok_or("memory")?;
-    let mut intakes = Intakes::new(rt.alloc(), config.max_message());
-    let mut routes = Routes::new(rt.alloc());
-    routes.add("/echo", b"").ok().ok_or("the route")?;
-    let mut out = Outside {
-        net: follow(rt, schedule)?,
-        watch: Recorder::new(rt.alloc()),
-        tally: Tally::new(),
-    };
-    let first = run_turn(&mut hub, &mut intakes, &routes, &mut out, handler);
-    let second = run_turn(&mut hub, &mut intakes, &routes, &mut out, handler);
-    let third = run_turn(&mut hub, &mut intakes, &routes, &mut out, handler);
-    Ok((out, [first, second, third]))
 }
 
 /// Checks that these notes were told and no others.
@@ -232,149 +220,207 @@ fn opened(conn: Conn) -> Note<'static> {
     Note::Opened { conn, route, param }
 }
 
+/// What an echo with so many connections at most tells over these acts, and how its run ends.
+#[derive(Drop)]
+struct Case<'a> {
+    max_conns: u32,
+    turns: u64,
+    rows: &'a [Row<'a>],
+    ran: Ran,
+    notes: &'a [Note<'a>],
+}
+
+/// The reply to a head, and a message behind it.
+fn reply_and_hello(rt: &HostRuntime) -> Result<Vec<u8>, Fail> {
+    let mut all = REPLY.to_vec(rt.alloc())?;
+    all.extend_from_slice(HELLO_BACK)?;
+    Ok(all)
+}
+
 #[test]
 fn a_head_in_pieces_and_a_message_are_answered(rt: HostRuntime) -> Result<(), Fail> {
-    let mut schedule = Schedule::new(rt.alloc());
-    push(&mut schedule, arrive(ONE))?;
-    push(&mut schedule, octets(&rt, ONE, &HEAD[..40])?)?;
-    push(&mut schedule, octets(&rt, ONE, &HEAD[40..142])?)?;
-    push(&mut schedule, Act::Turn)?;
-    let mut last = Vec::from_slice(rt.alloc(), &HEAD[142..])
-        .ok()
-        .ok_or("memory")?;
-    last.extend_from_slice(HELLO).ok().ok_or("memory")?;
-    push(&mut schedule, octets(&rt, ONE, &last)?)?;
-    let (out, ran) = run_echo(&rt, 2, schedule, 9)?;
-    assert_eq!(rt; HEAD.len(), 144);
-    assert_eq!(rt; ran, Ran::Stopped(2));
+    let mut last = HEAD[142..].to_vec(rt.alloc())?;
+    last.extend_from_slice(HELLO)?;
+    let conn = ONE;
     let kind = Kind::Text;
     let body = b"Hello";
-    let conn = ONE;
-    let notes = [
-        Note::Accepted(ONE),
-        given(ONE, 40),
-        given(ONE, 102),
-        Note::Turn,
-        given(ONE, 13),
-        opened(ONE),
-        took(ONE, 129),
-        Note::Message { conn, kind, body },
-        took(ONE, 7),
-        Note::Turn,
-    ];
-    expect_notes(&rt, &out.watch, &notes);
-    let mut all = Vec::from_slice(rt.alloc(), REPLY).ok().ok_or("memory")?;
-    all.extend_from_slice(HELLO_BACK).ok().ok_or("memory")?;
-    assert_eq!(rt; out.net.taken(ONE), all.as_slice());
+    let case = Case {
+        max_conns: 2,
+        turns: 9,
+        rows: &[
+            Row::Arrive(ONE),
+            Row::Octets(ONE, &HEAD[..40]),
+            Row::Octets(ONE, &HEAD[40..142]),
+            Row::Turn,
+            Row::Octets(ONE, &last),
+        ],
+        ran: Ran::Stopped(2),
+        notes: &[
+            Note::Accepted(ONE),
+            given(ONE, 40),
+            given(ONE, 102),
+            Note::Turn,
+            given(ONE, 13),
+            opened(ONE),
+            took(ONE, 129),
+            Note::Message { conn, kind, body },
+            took(ONE, 7),
+            Note::Turn,
+        ],
+    };
+    let (out, ran) = run_with(&rt, &mut Echo, case.max_conns, case.rows, case.turns)?;
+    assert_eq!(rt; ran, case.ran);
+    expect_notes(&rt, &out.watch, case.notes);
+    assert_eq!(rt; out.net.taken(ONE), reply_and_hello(&rt)?.as_slice());
     Ok(())
 }
 
 #[test]
-fn a_close_is_answered_and_told(rt: HostRuntime) -> Result<(), Fail> {
-    let mut schedule = Schedule::new(rt.alloc());
-    push(&mut schedule, arrive(ONE))?;
-    push(&mut schedule, octets(&rt, ONE, HEAD)?)?;
-    push(&mut schedule, octets(&rt, ONE, GOING_AWAY)?)?;
-    let (out, ran) = run_echo(&rt, 2, schedule, 9)?;
-    assert_eq!(rt; ran, Ran::Stopped(1));
+fn each_way_to_leave_is_told(rt: HostRuntime) -> Result<(), Fail> {
     let conn = ONE;
-    let code = 1001;
     let reason = b"";
-    let left = Left::Finished;
-    let notes = [
-        Note::Accepted(ONE),
-        given(ONE, 144),
-        opened(ONE),
-        took(ONE, 129),
-        given(ONE, 8),
-        Note::PeerClose { conn, code, reason },
-        took(ONE, 4),
-        Note::Closed { conn, code, reason },
-        Note::Gone { conn, left },
-        Note::Turn,
+    let cases = [
+        // the peer closes
+        Case {
+            max_conns: 2,
+            turns: 9,
+            rows: &[
+                Row::Arrive(ONE),
+                Row::Octets(ONE, HEAD),
+                Row::Octets(ONE, b"\x88\x82\x00\x00\x00\x00\x03\xe9"),
+            ],
+            ran: Ran::Stopped(1),
+            notes: &[
+                Note::Accepted(ONE),
+                given(ONE, 144),
+                opened(ONE),
+                took(ONE, 129),
+                given(ONE, 8),
+                Note::PeerClose {
+                    conn,
+                    code: 1001,
+                    reason,
+                },
+                took(ONE, 4),
+                Note::Closed {
+                    conn,
+                    code: 1001,
+                    reason,
+                },
+                Note::Gone {
+                    conn,
+                    left: Left::Finished,
+                },
+                Note::Turn,
+            ],
+        },
+        // the link ends in the head
+        Case {
+            max_conns: 2,
+            turns: 9,
+            rows: &[
+                Row::Arrive(ONE),
+                Row::Octets(ONE, &HEAD[..40]),
+                Row::End(ONE),
+            ],
+            ran: Ran::Stopped(1),
+            notes: &[
+                Note::Accepted(ONE),
+                given(ONE, 40),
+                Note::Gone {
+                    conn,
+                    left: Left::PeerEnd,
+                },
+                Note::Turn,
+            ],
+        },
+        // a connection too many
+        Case {
+            max_conns: 1,
+            turns: 1,
+            rows: &[Row::Arrive(ONE), Row::Arrive(TWO), Row::Tick],
+            ran: Ran::Stopped(1),
+            notes: &[Note::Accepted(ONE), Note::Busy(TWO), Note::Tick, Note::Turn],
+        },
+        // a head that is refused with 66 octets
+        Case {
+            max_conns: 1,
+            turns: 1,
+            rows: &[
+                Row::Arrive(ONE),
+                Row::Octets(ONE, b"GET / HTTP/1.1\r\n\r\n"),
+                Row::Turn,
+            ],
+            ran: Ran::Spent,
+            notes: &[
+                Note::Accepted(ONE),
+                given(ONE, 18),
+                Note::Head { conn, status: 400 },
+                took(ONE, 66),
+                Note::Gone {
+                    conn,
+                    left: Left::Finished,
+                },
+                Note::Turn,
+            ],
+        },
+        // behind the first fragment of a text, a frame that has no mask
+        Case {
+            max_conns: 2,
+            turns: 9,
+            rows: &[
+                Row::Arrive(ONE),
+                Row::Octets(ONE, HEAD),
+                Row::Octets(ONE, b"\x01\x81\x00\x00\x00\x00H\x80\x00"),
+                Row::Octets(ONE, HELLO),
+            ],
+            ran: Ran::Stopped(1),
+            notes: &[
+                Note::Accepted(ONE),
+                given(ONE, 144),
+                opened(ONE),
+                took(ONE, 129),
+                given(ONE, 9),
+                Note::Failed { conn, code: 1002 },
+                took(ONE, 4),
+                Note::Closed {
+                    conn,
+                    code: 1002,
+                    reason,
+                },
+                Note::Gone {
+                    conn,
+                    left: Left::Finished,
+                },
+                Note::Turn,
+            ],
+        },
     ];
-    expect_notes(&rt, &out.watch, &notes);
+    for case in &cases {
+        let (out, ran) = run_with(&rt, &mut Echo, case.max_conns, case.rows, case.turns)?;
+        assert_eq!(rt; ran, case.ran);
+        expect_notes(&rt, &out.watch, case.notes);
+    }
     Ok(())
 }
 
-#[test]
-fn an_end_in_the_head_shuts_the_link(rt: HostRuntime) -> Result<(), Fail> {
-    let mut schedule = Schedule::new(rt.alloc());
-    push(&mut schedule, arrive(ONE))?;
-    push(&mut schedule, octets(&rt, ONE, &HEAD[..40])?)?;
-    push(&mut schedule, Act::End(ONE))?;
-    let (out, ran) = run_echo(&rt, 2, schedule, 9)?;
-    assert_eq!(rt; ran, Ran::Stopped(1));
-    let conn = ONE;
-    let left = Left::PeerEnd;
-    let notes = [
-        Note::Accepted(ONE),
-        given(ONE, 40),
-        Note::Gone { conn, left },
-        Note::Turn,
-    ];
-    expect_notes(&rt, &out.watch, &notes);
-    Ok(())
-}
-
-#[test]
-fn a_connection_too_many_is_shut(rt: HostRuntime) -> Result<(), Fail> {
-    let mut schedule = Schedule::new(rt.alloc());
-    push(&mut schedule, arrive(ONE))?;
-    push(&mut schedule, arrive(TWO))?;
-    push(&mut schedule, Act::Tick)?;
-    let (out, ran) = run_echo(&rt, 1, schedule, 1)?;
-    assert_eq!(rt; ran, Ran::Stopped(1));
-    let notes = [Note::Accepted(ONE), Note::Busy(TWO), Note::Tick, Note::Turn];
-    expect_notes(&rt, &out.watch, &notes);
-    Ok(())
-}
-
-#[test]
-fn a_bad_head_is_refused_and_the_link_shut(rt: HostRuntime) -> Result<(), Fail> {
-    let mut schedule = Schedule::new(rt.alloc());
-    push(&mut schedule, arrive(ONE))?;
-    push(&mut schedule, octets(&rt, ONE, b"GET / HTTP/1.1\r\n\r\n")?)?;
-    push(&mut schedule, Act::Turn)?;
-    let (out, ran) = run_echo(&rt, 1, schedule, 1)?;
-    assert_eq!(rt; ran, Ran::Spent);
-    let conn = ONE;
-    let status = 400;
-    let left = Left::Finished;
-    let count = out.net.taken(ONE).len() as u64;
-    let notes = [
-        Note::Accepted(ONE),
-        given(ONE, 18),
-        Note::Head { conn, status },
-        took(ONE, count),
-        Note::Gone { conn, left },
-        Note::Turn,
-    ];
-    expect_notes(&rt, &out.watch, &notes);
-    Ok(())
-}
-
-/// Two connections send their messages, each cut at this place, one piece after another.
-fn interleave(rt: &HostRuntime, cut: usize) -> Result<(Outside<MemNet, Recorder>, Ran), Fail> {
-    let (front, behind) = HELLO.split_at(cut.min(HELLO.len()));
-    let mut schedule = Schedule::new(rt.alloc());
-    push(&mut schedule, arrive(ONE))?;
-    push(&mut schedule, arrive(TWO))?;
-    push(&mut schedule, octets(rt, ONE, HEAD)?)?;
-    push(&mut schedule, octets(rt, TWO, HEAD)?)?;
-    push(&mut schedule, octets(rt, ONE, front)?)?;
-    push(&mut schedule, octets(rt, TWO, front)?)?;
-    push(&mut schedule, octets(rt, ONE, behind)?)?;
-    push(&mut schedule, octets(rt, TWO, behind)?)?;
-    run_echo(rt, 2, schedule, 9)
-}
-
+/// Two connections send their messages, each cut at each place, one piece after another.
 #[test]
 fn connections_interleave_at_every_place(rt: HostRuntime) -> Result<(), Fail> {
-    let mut all = Vec::from_slice(rt.alloc(), REPLY).ok().ok_or("memory")?;
-    all.extend_from_slice(HELLO_BACK).ok().ok_or("memory")?;
+    let all = reply_and_hello(&rt)?;
     for cut in 1..HELLO.len() {
-        let (out, ran) = interleave(&rt, cut)?;
+        let (front, behind) = HELLO.split_at(cut.min(HELLO.len()));
+        let rows = [
+            Row::Arrive(ONE),
+            Row::Arrive(TWO),
+            Row::Octets(ONE, HEAD),
+            Row::Octets(TWO, HEAD),
+            Row::Octets(ONE, front),
+            Row::Octets(TWO, front),
+            Row::Octets(ONE, behind),
+            Row::Octets(TWO, behind),
+        ];
+        let (out, ran) = run_with(&rt, &mut Echo, 2, &rows, 9)?;
         assert_eq!(rt; ran, Ran::Stopped(1));
         assert_eq!(rt; out.net.taken(ONE), all.as_slice());
         assert_eq!(rt; out.net.taken(TWO), all.as_slice());
@@ -382,56 +428,22 @@ fn connections_interleave_at_every_place(rt: HostRuntime) -> Result<(), Fail> {
     Ok(())
 }
 
-#[test]
-fn a_failure_in_the_middle_of_a_message_is_told(rt: HostRuntime) -> Result<(), Fail> {
-    let mut schedule = Schedule::new(rt.alloc());
-    push(&mut schedule, arrive(ONE))?;
-    push(&mut schedule, octets(&rt, ONE, HEAD)?)?;
-    // The first fragment of a text, and behind it a frame that has no mask.
-    push(
-        &mut schedule,
-        octets(&rt, ONE, b"\x01\x81\x00\x00\x00\x00H\x80\x00")?,
-    )?;
-    push(&mut schedule, octets(&rt, ONE, HELLO)?)?;
-    let (out, ran) = run_echo(&rt, 2, schedule, 9)?;
-    assert_eq!(rt; ran, Ran::Stopped(1));
-    let conn = ONE;
-    let code = 1002;
-    let reason = b"";
-    let left = Left::Finished;
-    let notes = [
-        Note::Accepted(ONE),
-        given(ONE, 144),
-        opened(ONE),
-        took(ONE, 129),
-        given(ONE, 9),
-        Note::Failed { conn, code },
-        took(ONE, 4),
-        Note::Closed { conn, code, reason },
-        Note::Gone { conn, left },
-        Note::Turn,
-    ];
-    expect_notes(&rt, &out.watch, &notes);
-    Ok(())
-}
-
+/// The Opened event is the first one: it and the second message are those at which messages are sent.
 #[test]
 fn a_handler_keeps_its_state_between_turns(rt: HostRuntime) -> Result<(), Fail> {
-    let mut schedule = Schedule::new(rt.alloc());
-    push(&mut schedule, arrive(ONE))?;
-    push(&mut schedule, octets(&rt, ONE, HEAD)?)?;
-    push(&mut schedule, octets(&rt, ONE, HELLO)?)?;
-    push(&mut schedule, Act::Turn)?;
-    push(&mut schedule, octets(&rt, ONE, HELLO)?)?;
-    push(&mut schedule, Act::Turn)?;
-    push(&mut schedule, octets(&rt, ONE, HELLO)?)?;
-    // The Opened event is the first one: it and the second message are those at which messages are sent.
+    let rows = [
+        Row::Arrive(ONE),
+        Row::Octets(ONE, HEAD),
+        Row::Octets(ONE, HELLO),
+        Row::Turn,
+        Row::Octets(ONE, HELLO),
+        Row::Turn,
+        Row::Octets(ONE, HELLO),
+    ];
     let mut handler = EverySecond { sends: false };
-    let (out, turned) = three_turns_with(&rt, &mut handler, schedule)?;
-    assert_eq!(rt; turned, [Turned::Turn, Turned::Turn, Turned::Stop]);
+    let (out, ran) = run_with(&rt, &mut handler, 2, &rows, 9)?;
+    assert_eq!(rt; ran, Ran::Stopped(3));
     assert_eq!(rt; handler.sends, false);
-    let mut all = Vec::from_slice(rt.alloc(), REPLY).ok().ok_or("memory")?;
-    all.extend_from_slice(HELLO_BACK).ok().ok_or("memory")?;
-    assert_eq!(rt; out.net.taken(ONE), all.as_slice());
+    assert_eq!(rt; out.net.taken(ONE), reply_and_hello(&rt)?.as_slice());
     Ok(())
 }

@@ -1,21 +1,12 @@
 //! One turn.
 
-ghost use Rattle.std.specs.Prelude.{◌≡◌, ◌<◌, ◌≤◌, ◌^◌, ◌-◌, ℕ, length, None, true, IfNone, IfSome};
-ghost use Rattle.ws_kinds.specs.ConfigValue.{ConfigValue};
-ghost use Rattle.link_trait.specs.NetState.{NetState};
-ghost use Rattle.link_trait.specs.declared.net.NetEvent.{NetEvent};
-ghost use Rattle.link_trait.specs.Net.{Nexts, is_rest};
-ghost use Rattle.route_table.specs.Table.{RouteTable};
-ghost use Rattle.run_kept.specs.Kept.{IntakeView};
-ghost use Rattle.run_kept.specs.Ends.{AreThere};
-ghost use Rattle.loop_runner.specs.Keeps.{Grows, KeptAll, AreViews, IsRight, IsSettled, IsLivedThroughout, EndsWithTurn};
-ghost use Rattle.link_trait.specs.Link.{Rose};
-ghost use Rattle.hub_lines.specs.State.{server};
+ghost use Rattle.std.specs.Prelude.{◌≡◌, ℕ, None};
 ghost use Rattle.hub_notes.specs.Progress.{due_at};
-ghost use Rattle.hub_table.specs.Table.{IsTable, table_of};
+ghost use Rattle.hub_core.specs.At.{at};
 ghost use Rattle.loop_runner.specs.Ready.{Ready};
-ghost use Rattle.loop_runner.specs.Steps.{Every, Steps, Running, Onward};
-ghost use Rattle.loop_runner.specs.Turns.{PassesTurn, PassesBetween, FailsAs};
+ghost use Rattle.loop_runner.specs.Steps.{Every, Running};
+ghost use Rattle.loop_runner.specs.Moments.{moment};
+ghost use Rattle.loop_runner.specs.Turning.{TakesEvent, EndsEvents, MakesTurn};
 
 use crate::arriving::arrive;
 use crate::closing::{close_all, tidy};
@@ -61,46 +52,17 @@ pub fn run_turn<N: Net, W: Watch, H: Handler>(
     out: &mut Outside<N, W>,
     handler: &mut H,
 ) -> Turned
-    requires ready { Ready intakes.old (server hub.old (N.state out.old.net) (W.told out.old.watch)) }
-    ensures ready { Ready intakes.new (server hub.new (N.state out.new.net) (W.told out.new.watch)) }
-    ensures passed { PassesTurn result (N.state out.old.net) (N.state out.new.net) }
-    ensures failed { FailsAs result (N.state out.old.net).faults (N.state out.new.net).faults }
-    ensures grows { Grows (server hub.old (N.state out.old.net) (W.told out.old.watch)) (server hub.new (N.state out.new.net) (W.told out.new.watch)) }
-    ensures kept { (start : H.State) (config : ConfigValue) (views : ℕ → IntakeView) → length (N.state out.new.net).passed < 2 ^ 64 - 1 → AreViews intakes.old views → KeptAll start H.after H.said config routes.now (server hub.old (N.state out.old.net) (W.told out.old.watch)) (H.state handler.old) views None → (later : ℕ → IntakeView) × AreViews intakes.new later × KeptAll start H.after H.said config routes.now (server hub.new (N.state out.new.net) (W.told out.new.watch)) (H.state handler.new) later None }
-    ensures right { (start : H.State) (config : ConfigValue) (views : ℕ → IntakeView) → length (N.state out.new.net).passed < 2 ^ 64 - 1 → AreViews intakes.old views → KeptAll start H.after H.said config routes.now (server hub.old (N.state out.old.net) (W.told out.old.watch)) (H.state handler.old) views None → IsRight start H.after H.said config routes.now (server hub.new (N.state out.new.net) (W.told out.new.watch)) (H.state handler.new) }
-    ensures there { AreThere (server hub.old (N.state out.old.net) (W.told out.old.watch)) → AreThere (server hub.new (N.state out.new.net) (W.told out.new.watch)) }
-    ensures settled { (start : H.State) (config : ConfigValue) (views : ℕ → IntakeView) → length (N.state out.new.net).passed < 2 ^ 64 - 1 → AreViews intakes.old views → KeptAll start H.after H.said config routes.now (server hub.old (N.state out.old.net) (W.told out.old.watch)) (H.state handler.old) views None → AreThere (server hub.old (N.state out.old.net) (W.told out.old.watch)) → IsSettled start H.after H.said config routes.now (server hub.new (N.state out.new.net) (W.told out.new.watch)) }
-    ensures last { EndsWithTurn (W.told out.new.watch) }
-    ensures throughout { (start : H.State) (config : ConfigValue) (views : ℕ → IntakeView) → length (N.state out.new.net).passed < 2 ^ 64 - 1 → AreViews intakes.old views → KeptAll start H.after H.said config routes.now (server hub.old (N.state out.old.net) (W.told out.old.watch)) (H.state handler.old) views None → IsLivedThroughout start H.after H.said config routes.now (server hub.old (N.state out.old.net) (W.told out.old.watch)) → IsLivedThroughout start H.after H.said config routes.now (server hub.new (N.state out.new.net) (W.told out.new.watch)) }
+    requires { Ready intakes.old (at N.Net W.Watch hub.old out.old) }
+    ensures { let seen = moment N.Net W.Watch H.Handler in MakesTurn routes.now result intakes.old intakes.new (seen hub.old out.old handler.old) (seen hub.new out.new handler.new) }
 {
-    begin(hub, intakes, out, handler);
+    // Those that are due since the last turn.
+    close_all(hub, intakes, out, handler);
     'events: loop {
         match take_event(hub, intakes, routes, out, handler) {
             None => {}
             Some(turned) => return turned,
         }
     }
-}
-
-/// Gives the Closed events that are due since the last turn.
-fn begin<N: Net, W: Watch, H: Handler>(
-    hub: &mut Hub,
-    intakes: &mut Intakes,
-    out: &mut Outside<N, W>,
-    handler: &mut H,
-)
-    requires ready { Ready intakes.old (server hub.old (N.state out.old.net) (W.told out.old.watch)) }
-    ensures running { Running Every intakes.new (server hub.new (N.state out.new.net) (W.told out.new.watch)) }
-    ensures table { IsTable (table_of hub.new) }
-    ensures none { (conn : ℕ) → due_at hub.new conn ≡ None }
-    ensures steps { Steps Every (server hub.old (N.state out.old.net) (W.told out.old.watch)) (server hub.new (N.state out.new.net) (W.told out.new.watch)) }
-    ensures grows { Grows (server hub.old (N.state out.old.net) (W.told out.old.watch)) (server hub.new (N.state out.new.net) (W.told out.new.watch)) }
-    ensures kept { (start : H.State) (config : ConfigValue) (table : RouteTable) (views : ℕ → IntakeView) → AreViews intakes.old views → KeptAll start H.after H.said config table (server hub.old (N.state out.old.net) (W.told out.old.watch)) (H.state handler.old) views None → (later : ℕ → IntakeView) × AreViews intakes.new later × KeptAll start H.after H.said config table (server hub.new (N.state out.new.net) (W.told out.new.watch)) (H.state handler.new) later None }
-{
-    if hub.count() == 0 {
-        return;
-    }
-    close_all(hub, intakes, out, handler);
 }
 
 /// Takes the next event, and gives the Closed events that are due then. Answers how the turn ended, if it did.
@@ -111,22 +73,9 @@ fn take_event<N: Net, W: Watch, H: Handler>(
     out: &mut Outside<N, W>,
     handler: &mut H,
 ) -> Option<Turned>
-    requires table { IsTable (table_of hub.old) }
     requires none { (conn : ℕ) → due_at hub.old conn ≡ None }
-    requires running { Running Every intakes.old (server hub.old (N.state out.old.net) (W.told out.old.watch)) }
-    ensures running { IfNone result (Running Every intakes.new (server hub.new (N.state out.new.net) (W.told out.new.watch))) }
-    ensures table { IfNone result (IsTable (table_of hub.new)) }
-    ensures none { IfNone result ((conn : ℕ) → due_at hub.new conn ≡ None) }
-    ensures fell { IfNone result ((N.state out.new.net).room < (N.state out.old.net).room) }
-    ensures passed { IfNone result (PassesBetween (N.state out.old.net) (N.state out.new.net)) }
-    ensures ready { IfSome result (λ turned. Ready intakes.new (server hub.new (N.state out.new.net) (W.told out.new.watch))) }
-    ensures ends { IfSome result (λ turned. PassesTurn turned (N.state out.old.net) (N.state out.new.net)) }
-    ensures failed { IfSome result (λ turned. FailsAs turned (N.state out.old.net).faults (N.state out.new.net).faults) }
-    ensures last { IfSome result (λ turned. EndsWithTurn (W.told out.new.watch)) }
-    ensures grows { Grows (server hub.old (N.state out.old.net) (W.told out.old.watch)) (server hub.new (N.state out.new.net) (W.told out.new.watch)) }
-    ensures kept { (start : H.State) (config : ConfigValue) (views : ℕ → IntakeView) → length (N.state out.new.net).passed < 2 ^ 64 - 1 → AreViews intakes.old views → KeptAll start H.after H.said config routes.now (server hub.old (N.state out.old.net) (W.told out.old.watch)) (H.state handler.old) views None → (later : ℕ → IntakeView) × AreViews intakes.new later × KeptAll start H.after H.said config routes.now (server hub.new (N.state out.new.net) (W.told out.new.watch)) (H.state handler.new) later None }
-    ensures there { AreThere (server hub.old (N.state out.old.net) (W.told out.old.watch)) → AreThere (server hub.new (N.state out.new.net) (W.told out.new.watch)) }
-    ensures settled { IfSome result (λ turned. (start : H.State) (config : ConfigValue) (views : ℕ → IntakeView) → length (N.state out.new.net).passed < 2 ^ 64 - 1 → KeptAll start H.after H.said config routes.now (server hub.old (N.state out.old.net) (W.told out.old.watch)) (H.state handler.old) views None → AreThere (server hub.old (N.state out.old.net) (W.told out.old.watch)) → IsSettled start H.after H.said config routes.now (server hub.new (N.state out.new.net) (W.told out.new.watch))) }
+    requires running { Running Every intakes.old (at N.Net W.Watch hub.old out.old) }
+    ensures { let seen = moment N.Net W.Watch H.Handler in TakesEvent routes.now result intakes.old intakes.new (seen hub.old out.old handler.old) (seen hub.new out.new handler.new) }
 {
     match out.net.next() {
         NetEvent::Accept(conn) => {
@@ -172,13 +121,8 @@ fn end_turn<N: Net, W: Watch, H: Handler>(
     handler: &H,
 )
     requires none { (conn : ℕ) → due_at hub.old conn ≡ None }
-    requires running { Running Every intakes.old (server hub.old (N.state out.old.net) (W.told out.old.watch)) }
-    ensures ready { Ready intakes.new (server hub.new (N.state out.new.net) (W.told out.new.watch)) }
-    ensures steps { Steps Every (server hub.old (N.state out.old.net) (W.told out.old.watch)) (server hub.new (N.state out.new.net) (W.told out.new.watch)) }
-    ensures grows { Grows (server hub.old (N.state out.old.net) (W.told out.old.watch)) (server hub.new (N.state out.new.net) (W.told out.new.watch)) }
-    ensures last { EndsWithTurn (W.told out.new.watch) }
-    ensures kept { (start : H.State) (config : ConfigValue) (table : RouteTable) (views : ℕ → IntakeView) (answer : NetEvent) (before : NetState) → is_rest answer ≡ true → Nexts answer before (N.state out.old.net) → length before.passed < 2 ^ 64 - 1 → AreViews intakes.old views → KeptAll start H.after H.said config table (server hub.old before (W.told out.old.watch)) (H.state handler.now) views None → AreViews intakes.new views × KeptAll start H.after H.said config table (server hub.new (N.state out.new.net) (W.told out.new.watch)) (H.state handler.now) views None }
-    ensures settled { (start : H.State) (config : ConfigValue) (table : RouteTable) (views : ℕ → IntakeView) (answer : NetEvent) (before : NetState) → is_rest answer ≡ true → Nexts answer before (N.state out.old.net) → length before.passed < 2 ^ 64 - 1 → KeptAll start H.after H.said config table (server hub.old before (W.told out.old.watch)) (H.state handler.now) views None → AreThere (server hub.old before (W.told out.old.watch)) → IsSettled start H.after H.said config table (server hub.new (N.state out.new.net) (W.told out.new.watch)) }
+    requires running { Running Every intakes.old (at N.Net W.Watch hub.old out.old) }
+    ensures { let seen = moment N.Net W.Watch H.Handler in EndsEvents intakes.old intakes.new (seen hub.old out.old handler.now) (seen hub.new out.new handler.now) }
 {
     hub.end_turn(out);
     tidy(hub, intakes);

@@ -1,13 +1,9 @@
 //! Turn after turn.
 
-ghost use Rattle.std.specs.Prelude.{◌<◌, ◌≤◌, ◌^◌, ◌-◌, ℕ, length, None};
-ghost use Rattle.ws_kinds.specs.ConfigValue.{ConfigValue};
-ghost use Rattle.run_kept.specs.Kept.{IntakeView};
-ghost use Rattle.hub_lines.specs.State.{server};
+ghost use Rattle.hub_core.specs.At.{at};
 ghost use Rattle.loop_runner.specs.Ready.{Ready};
-ghost use Rattle.loop_runner.specs.Turns.{Runs};
-ghost use Rattle.run_kept.specs.Ends.{AreThere};
-ghost use Rattle.loop_runner.specs.Keeps.{Grows, KeptAll, AreViews, IsRight, IsSettled, IsLivedThroughout, EndsWithTurn};
+ghost use Rattle.loop_runner.specs.Moments.{moment};
+ghost use Rattle.loop_runner.specs.Turning.{MakesRun};
 
 use crate::intakes::Intakes;
 use crate::turn::{Turned, run_turn};
@@ -43,16 +39,8 @@ pub fn run<N: Net, W: Watch, H: Handler>(
     handler: &mut H,
     turns: u64,
 ) -> Ran
-    requires ready { Ready intakes.old (server hub.old (N.state out.old.net) (W.told out.old.watch)) }
-    ensures ready { Ready intakes.new (server hub.new (N.state out.new.net) (W.told out.new.watch)) }
-    ensures runs { Runs result turns (N.state out.old.net) (N.state out.new.net) }
-    ensures grows { Grows (server hub.old (N.state out.old.net) (W.told out.old.watch)) (server hub.new (N.state out.new.net) (W.told out.new.watch)) }
-    ensures kept { (start : H.State) (config : ConfigValue) (views : ℕ → IntakeView) → length (N.state out.new.net).passed < 2 ^ 64 - 1 → AreViews intakes.old views → KeptAll start H.after H.said config routes.now (server hub.old (N.state out.old.net) (W.told out.old.watch)) (H.state handler.old) views None → (later : ℕ → IntakeView) × AreViews intakes.new later × KeptAll start H.after H.said config routes.now (server hub.new (N.state out.new.net) (W.told out.new.watch)) (H.state handler.new) later None }
-    ensures right { (start : H.State) (config : ConfigValue) (views : ℕ → IntakeView) → length (N.state out.new.net).passed < 2 ^ 64 - 1 → AreViews intakes.old views → KeptAll start H.after H.said config routes.now (server hub.old (N.state out.old.net) (W.told out.old.watch)) (H.state handler.old) views None → IsRight start H.after H.said config routes.now (server hub.new (N.state out.new.net) (W.told out.new.watch)) (H.state handler.new) }
-    ensures there { AreThere (server hub.old (N.state out.old.net) (W.told out.old.watch)) → AreThere (server hub.new (N.state out.new.net) (W.told out.new.watch)) }
-    ensures settled { (start : H.State) (config : ConfigValue) (views : ℕ → IntakeView) → 1 ≤ turns → length (N.state out.new.net).passed < 2 ^ 64 - 1 → AreViews intakes.old views → KeptAll start H.after H.said config routes.now (server hub.old (N.state out.old.net) (W.told out.old.watch)) (H.state handler.old) views None → AreThere (server hub.old (N.state out.old.net) (W.told out.old.watch)) → IsSettled start H.after H.said config routes.now (server hub.new (N.state out.new.net) (W.told out.new.watch)) }
-    ensures last { 1 ≤ turns → EndsWithTurn (W.told out.new.watch) }
-    ensures throughout { (start : H.State) (config : ConfigValue) (views : ℕ → IntakeView) → length (N.state out.new.net).passed < 2 ^ 64 - 1 → AreViews intakes.old views → KeptAll start H.after H.said config routes.now (server hub.old (N.state out.old.net) (W.told out.old.watch)) (H.state handler.old) views None → IsLivedThroughout start H.after H.said config routes.now (server hub.old (N.state out.old.net) (W.told out.old.watch)) → IsLivedThroughout start H.after H.said config routes.now (server hub.new (N.state out.new.net) (W.told out.new.watch)) }
+    requires { Ready intakes.old (at N.Net W.Watch hub.old out.old) }
+    ensures { let seen = moment N.Net W.Watch H.Handler in MakesRun routes.now result turns intakes.old intakes.new (seen hub.old out.old handler.old) (seen hub.new out.new handler.new) }
 {
     'turns: for turn in 0..turns {
         match run_turn(hub, intakes, routes, out, handler) {

@@ -8,13 +8,15 @@ use arrayvec::ArrayVec;
 use matchit::{InsertError, Params, Router};
 use std::alloc::Global;
 use std::marker::Model;
-use ws_kinds::Name;
 
-// How many routes there can be, so that the numbers 0 to 254 name them.
+/// How many routes there can be, so that the numbers 0 to 254 name them.
 const MAX_ROUTES: usize = 255;
 
-// How many octets a parameter and a subprotocol's name can have.
+/// How many octets a parameter and a subprotocol's name can have.
 const MAX_NAME: usize = 64;
+
+/// The name of a subprotocol.
+type ProtocolName = ArrayVec<u8, MAX_NAME>;
 
 /// Why a route was not added.
 #[derive(Clone, Copy, Debug, PartialEq, Eq)]
@@ -33,10 +35,10 @@ pub enum RouteFault {
 /// subprotocol of at most 64 octets, which may be empty.
 #[derive(Drop)]
 pub struct Routes {
-    // Each pattern with its route's number.
+    /// Each pattern with its route's number.
     router: Router<u8>,
-    // The names of the subprotocols, by the routes' numbers.
-    protocols: Vec<Name>,
+    /// The names of the subprotocols, by the routes' numbers.
+    protocols: Vec<ProtocolName>,
 }
 
 impl Model for Routes {
@@ -51,7 +53,7 @@ impl Model for Routes {
     ghost invariant = { λ a. IsTable a.router (length a.protocols.items) };
 }
 
-// What the first parameter took of the path, or nothing.
+/// What the first parameter took of the path, or nothing.
 fn first_of<'k, 'p>(params: &Params<'k, 'p>) -> &'p [u8]
     requires { IsUtf8 (first_value (walk params.now.pattern.now params.now.text.now params.now.path.now params.now.names.now 0 0)) }
     ensures { result.now ≡ first_value (walk params.now.pattern.now params.now.text.now params.now.path.now params.now.names.now 0 0) }
@@ -105,8 +107,10 @@ impl Routes {
         if number >= MAX_ROUTES {
             return Err(RouteFault::Full);
         }
-        let mut name = ArrayVec::new();
-        let _ = name.try_extend_from_slice(protocol);
+        let mut name = ProtocolName::new();
+        if name.try_extend_from_slice(protocol).is_err() {
+            unreachable!("the name is short enough");
+        }
         if self.protocols.reserve(1).is_err() {
             return Err(RouteFault::Memory);
         }

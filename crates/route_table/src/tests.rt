@@ -4,8 +4,8 @@ use std::test::*;
 
 const LONG: [u8; 65] = [b'a'; 65];
 
-// Patterns with the names of their subprotocols, in the order of their numbers.
-const PATTERNS: [(&str, &[u8]); 6] = [
+/// Patterns with the names of their subprotocols, in the order of their numbers.
+const PATTERNS: &[(&str, &[u8])] = &[
     ("/echo", b""),
     ("/room/{name}", b"room.v1"),
     ("/a/{x}/b/{y}", b"a"),
@@ -14,24 +14,24 @@ const PATTERNS: [(&str, &[u8]); 6] = [
     ("/ü/{{{name}", b"braces"),
 ];
 
-// Paths with the answers, or none.
-const PATHS: [(&str, Option<(u8, &[u8])>); 20] = [
-    ("/echo", Some((0, b""))),
-    ("/room/lobby", Some((1, b"lobby"))),
+/// Paths with the number of the route, its parameter and the name of its subprotocol, or none.
+const PATHS: &[(&str, Option<(u8, &str, &[u8])>)] = &[
+    ("/echo", Some((0, "", b""))),
+    ("/room/lobby", Some((1, "lobby", b"room.v1"))),
     // the first of two parameters
-    ("/a/1/b/22", Some((2, b"1"))),
-    ("/files/x/y.txt", Some((3, b"x/y.txt"))),
+    ("/a/1/b/22", Some((2, "1", b"a"))),
+    ("/files/x/y.txt", Some((3, "x/y.txt", b"files"))),
     // characters of two to four octets
-    ("/room/Käse", Some((1, b"K\xc3\xa4se"))),
-    ("/room/ä", Some((1, b"\xc3\xa4"))),
-    ("/room/€", Some((1, b"\xe2\x82\xac"))),
-    ("/a/ü𝄞/b/ß", Some((2, b"\xc3\xbc\xf0\x9d\x84\x9e"))),
-    ("/files/ö/ü", Some((3, b"\xc3\xb6/\xc3\xbc"))),
+    ("/room/Käse", Some((1, "Käse", b"room.v1"))),
+    ("/room/ä", Some((1, "ä", b"room.v1"))),
+    ("/room/€", Some((1, "€", b"room.v1"))),
+    ("/a/ü𝄞/b/ß", Some((2, "ü𝄞", b"a"))),
+    ("/files/ö/ü", Some((3, "ö/ü", b"files"))),
     // a parameter in front of a character of the pattern, and behind one
-    ("/end/öß", Some((4, b"\xc3\xb6"))),
-    ("/ü/{ö", Some((5, b"\xc3\xb6"))),
+    ("/end/öß", Some((4, "ö", b"sharp"))),
+    ("/ü/{ö", Some((5, "ö", b"braces"))),
     // nothing is decoded
-    ("/room/%C3%A4", Some((1, b"%C3%A4"))),
+    ("/room/%C3%A4", Some((1, "%C3%A4", b"room.v1"))),
     ("", None),
     ("/", None),
     ("echo", None),
@@ -40,12 +40,34 @@ const PATHS: [(&str, Option<(u8, &[u8])>); 20] = [
     ("/room/", None),
     ("/room/a/b", None),
     ("/end/ß", None),
+    // 64 octets, and 65; the second parameter has no bound
+    (
+        "/room/ääääääääääääääääääääääääääääääää",
+        Some((1, "ääääääääääääääääääääääääääääääää", b"room.v1")),
+    ),
+    ("/room/ääääääääääääääääääääääääääääääääa", None),
+    (
+        "/a/1/b/ääääääääääääääääääääääääääääääääa",
+        Some((2, "1", b"a")),
+    ),
 ];
 
-// A table with these patterns, each with its place as its number.
-fn example(alloc: Global) -> Result<Routes, Fail> {
+/// Patterns that are refused once the routes of `PATTERNS` are there.
+const REFUSED: &[&str] = &[
+    "/echo",
+    "/room/{other}",
+    "/{",
+    "/}",
+    "/{}",
+    "/{a}{b}",
+    "/{*a}/b",
+    "/room/{*all}",
+];
+
+/// A table with these patterns, each with its place as its number.
+fn table_of(alloc: Global, patterns: &[(&str, &[u8])]) -> Result<Routes, Fail> {
     let mut routes = Routes::new(alloc);
-    for (number, (pattern, protocol)) in PATTERNS.iter().enumerate() {
+    for (number, (pattern, protocol)) in patterns.iter().enumerate() {
         let added = routes.add(pattern, protocol).ok().ok_or("not added")?;
         if added as usize != number {
             return Err("another number".into());
@@ -54,119 +76,91 @@ fn example(alloc: Global) -> Result<Routes, Fail> {
     Ok(routes)
 }
 
-#[test]
-fn finds_the_first_parameter(rt: HostRuntime) -> Result<(), Fail> {
-    let routes = example(rt.alloc())?;
-    for (path, wanted) in PATHS {
-        assert_eq!(rt; routes.find(path), wanted, "{path}");
-    }
-    Ok(())
-}
-
-// The name of the subprotocol of the route that a path finds.
-fn protocol_at<'a>(routes: &'a Routes, path: &str) -> Option<&'a [u8]> {
+/// What a path finds, with the name of the route's subprotocol.
+fn found<'a>(routes: &'a Routes, path: &'a str) -> Option<(u8, &'a [u8], &'a [u8])> {
     match routes.find(path) {
-        Some((route, _)) => Some(routes.protocol(route)),
+        Some((route, value)) => Some((route, value, routes.protocol(route))),
         None => None,
     }
 }
 
-#[test]
-fn names_of_subprotocols(rt: HostRuntime) -> Result<(), Fail> {
-    let routes = example(rt.alloc())?;
-    let wanted: [(&str, Option<&[u8]>); 5] = [
-        ("/echo", Some(b"")),
-        ("/room/lobby", Some(b"room.v1")),
-        ("/a/1/b/22", Some(b"a")),
-        ("/ü/{ö", Some(b"braces")),
-        ("/none", None),
-    ];
-    for (path, protocol) in wanted {
-        assert_eq!(rt; protocol_at(&routes, path), protocol, "{path}");
+fn finds(routes: &Routes, path: &str, wanted: Option<(u8, &str, &[u8])>) -> bool {
+    match wanted {
+        Some((route, value, protocol)) => {
+            found(routes, path) == Some((route, value.as_bytes(), protocol))
+        }
+        None => found(routes, path).is_none(),
     }
-    Ok(())
 }
 
-#[test]
-fn parameter_of_64_octets(rt: HostRuntime) -> Result<(), Fail> {
-    let alloc = rt.alloc();
-    let routes = example(rt.alloc())?;
-    let longest = "ä".repeat(alloc, 32)?;
-    let path = format!(in alloc; "/room/{longest}")?;
-    assert_eq!(rt; routes.find(path.as_str()), Some((1, longest.as_bytes())));
-    let path = format!(in alloc; "/room/{longest}a")?;
-    assert_eq!(rt; routes.find(path.as_str()), None);
-    // the second parameter has no bound
-    let path = format!(in alloc; "/a/1/b/{longest}a")?;
-    assert_eq!(rt; routes.find(path.as_str()), Some((2, b"1".as_slice())));
-    Ok(())
-}
-
-#[test]
-fn name_of_64_octets(rt: HostRuntime) -> Result<(), Fail> {
-    let mut routes = Routes::new(rt.alloc());
-    assert_eq!(rt; routes.add("/echo", &LONG), Err(RouteFault::TooLong));
-    assert_eq!(rt; routes.find("/echo"), None);
-    assert_eq!(rt; routes.add("/echo", &LONG[..64]), Ok(0));
-    Ok(())
-}
-
-#[test]
-fn refused_patterns(rt: HostRuntime) -> Result<(), Fail> {
-    let mut routes = example(rt.alloc())?;
-    for pattern in [
-        "/echo",
-        "/room/{other}",
-        "/{",
-        "/}",
-        "/{}",
-        "/{a}{b}",
-        "/{*a}/b",
-        "/room/{*all}",
-    ] {
-        assert_eq!(rt;
-            routes.add(pattern, b"x"),
-            Err(RouteFault::Refused),
-            "{pattern}"
-        );
+/// The place of the first path that finds something else.
+fn other_path(routes: &Routes, rows: &[(&str, Option<(u8, &str, &[u8])>)]) -> Option<usize> {
+    for (place, (path, wanted)) in rows.iter().enumerate() {
+        if !finds(routes, path, *wanted) {
+            return Some(place);
+        }
     }
-    assert_eq!(rt; routes.find("/room/lobby"), Some((1, b"lobby".as_slice())));
+    None
+}
+
+/// The place of the first pattern that is not refused.
+fn first_taken(routes: &mut Routes, patterns: &[&str]) -> Option<usize> {
+    for (place, pattern) in patterns.iter().enumerate() {
+        if routes.add(pattern, b"x") != Err(RouteFault::Refused) {
+            return Some(place);
+        }
+    }
+    None
+}
+
+#[test]
+fn paths_and_patterns(rt: HostRuntime) -> Result<(), Fail> {
+    let mut routes = table_of(rt.alloc(), PATTERNS)?;
+    assert_eq!(rt; first_taken(&mut routes, REFUSED), None);
+    assert_eq!(rt; other_path(&routes, PATHS), None);
     // the next number is the one that no refused pattern took
-    assert_eq!(rt; routes.add("/next", b"n"), Ok(6));
-    assert!(rt; routes.find("/next") == Some((6, b"".as_slice())));
+    assert_eq!(rt; routes.add("/next", &LONG), Err(RouteFault::TooLong));
+    assert_eq!(rt; routes.add("/next", &LONG[..64]), Ok(6));
+    assert!(rt; finds(&routes, "/next", Some((6, "", &LONG[..64]))));
     Ok(())
+}
+
+/// A table with as many routes as there can be.
+fn full(alloc: Global) -> Result<Routes, Fail> {
+    let mut routes = Routes::new(alloc);
+    for number in 0..255u8 {
+        let pattern = format!(in alloc; "/r{number}")?;
+        if routes.add(pattern.as_str(), &[number]) != Ok(number) {
+            return Err("another number".into());
+        }
+    }
+    Ok(routes)
 }
 
 #[test]
 fn full_at_255_routes(rt: HostRuntime) -> Result<(), Fail> {
-    let alloc = rt.alloc();
-    let mut routes = Routes::new(alloc);
-    for number in 0..255u8 {
-        let pattern = format!(in alloc; "/r{number}")?;
-        assert_eq!(rt; routes.add(pattern.as_str(), &[number]), Ok(number));
-    }
+    let mut routes = full(rt.alloc())?;
     assert_eq!(rt; routes.add("/more", &LONG), Err(RouteFault::TooLong));
     assert_eq!(rt; routes.add("/more", b""), Err(RouteFault::Full));
     assert_eq!(rt; routes.add("/r0", b""), Err(RouteFault::Full));
-    assert_eq!(rt; routes.find("/more"), None);
-    assert_eq!(rt; routes.find("/r254"), Some((254, b"".as_slice())));
+    assert!(rt; finds(&routes, "/more", None));
+    assert!(rt; finds(&routes, "/r254", Some((254, "", &[254]))));
     Ok(())
 }
 
-// Where an allocation fails (`rt try --test --fail-alloc N`), the table stays as it was and takes the route later.
-#[test]
-fn want_of_memory(rt: HostRuntime) -> Result<(), Fail> {
-    let mut routes = Routes::new(rt.alloc());
-    let mut added = routes.add("/room/{name}", b"room.v1");
-    if added == Err(RouteFault::Memory) {
-        assert_eq!(rt; routes.find("/room/a"), None);
-        added = routes.add("/room/{name}", b"room.v1");
+/// Adds a route. Where an allocation fails (`rt try --test --fail-alloc N`), the table stays as it was and takes the route
+/// later.
+fn add_again(routes: &mut Routes) -> Result<u8, RouteFault> {
+    let added = routes.add("/room/{name}", b"room.v1");
+    if added == Err(RouteFault::Memory) && finds(routes, "/room/a", None) {
+        return routes.add("/room/{name}", b"room.v1");
     }
-    assert_eq!(rt; added, Ok(0));
-    assert_eq!(rt; routes.find("/room/a"), Some((0, b"a".as_slice())));
-    assert_eq!(rt;
-        protocol_at(&routes, "/room/a"),
-        Some(b"room.v1".as_slice())
-    );
-    Ok(())
+    added
+}
+
+#[test]
+fn want_of_memory(rt: HostRuntime) {
+    let mut routes = Routes::new(rt.alloc());
+    assert_eq!(rt; add_again(&mut routes), Ok(0));
+    assert!(rt; finds(&routes, "/room/a", Some((0, "a", b"room.v1"))));
 }

@@ -1,8 +1,8 @@
 -- Who left Open as a turn ended, and which links are live.
-use Rattle.std.proofs.Common.{◌≡◌, ◌≢◌, ◌<◌, ℕ, List, [], ◌∷◌, ◌++◌, Option, Some, None, is_some, Bool, true, false, cond, not, nat_eq, ◌&&◌, ◌||◌, refl, sym, ap, ◌∙◌, append-nil, append_assoc, ⊎_elim, arith}
-use Rattle.std.proofs.lemmas.Bool.{cases_eq}
-use Rattle.std.proofs.lemmas.Bool.Decides.{nat_tests}
+use Rattle.std.proofs.Common.{◌≡◌, ◌≢◌, ◌<◌, ℕ, List, [], ◌∷◌, ◌++◌, Option, Some, None, is_some, Bool, true, false, cond, not, nat_eq, ◌&&◌, refl, sym, ap, ◌∙◌, append-nil, append_assoc, ⊎_elim, arith}
+use Rattle.std.proofs.lemmas.Bool.{cases_eq, not-true}
 use Rattle.std.specs.List.{list_all}
+use Rattle.run_laws.proofs.Adding.{itself, is_same}
 use Rattle.ws_kinds.specs.declared.conn.Conn.{Conn}
 use Rattle.ws_kinds.specs.declared.note.Left.{Left}
 use Rattle.ws_kinds.specs.declared.note.Left.TheVariants.{PeerEnd, LinkFailed, Idle, Finished}
@@ -16,26 +16,30 @@ use Rattle.link_trait.specs.declared.net.NetEvent.TheVariants as event
 use Rattle.run_meaning.specs.Notes.{is_of, is_event, is_unserved, is_gone}
 use Rattle.run_meaning.specs.Counts.{is_gone_in}
 use Rattle.run_meaning.specs.Server as run
-use Rattle.run_meaning.specs.Lines.{Line, World, moved, leaves_open, cause_of, is_open, line_after, world, phase}
+use Rattle.ws_kinds.specs.OrderValue.{OrderValue}
+use Rattle.run_meaning.specs.Steps.{Step, by_note, by_order, notes_of}
+use Rattle.run_meaning.specs.Lines.{Line, World, moved, closing, leaves_open, cause_of, is_open, line_after, world, phase}
 use Rattle.run_meaning.specs.Settled.{LeftAtEnd, is_sudden, is_last_note}
 use Rattle.run_meaning.proofs.Parts.{list_all-append}
 use Rattle.run_meaning.proofs.Worlds.{world_plain}
 use Rattle.hub_lines.specs.State as hub
-use Rattle.hub_lines.specs.State.{HubState, Server, Entry, has_entry, is_present, entry_at, ring_at}
-use Rattle.hub_lines.proofs.EntryLemmas.{none_of}
-use Rattle.hub_notes.specs.Noted.{is_outgoing}
-use Rattle.hub_notes.specs.Progress.{Progress, unless_gone, due_at, progress_at, progress_by, progress_after, progress_after_all}
-use Rattle.hub_notes.specs.Calls.{Advances}
+use Rattle.hub_lines.specs.State.{HubState, Server, Entry, has_entry, is_present, entry_at}
+use Rattle.run_meaning.specs.Performs.{is_outgoing}
+use Rattle.hub_notes.specs.Progress.{Progress, due_at, progress_at, progress_by, progress_after, progress_after_all, progress_obeys, progress_by_steps}
+use Rattle.run_meaning.specs.Orders.{unless_gone}
+use Rattle.hub_notes.specs.Calls.{Advances, Does}
 use Rattle.hub_notes.proofs.BoolLemmas.{by_cases, clash, and_left, and_right, or_left, or_right}
 use Rattle.hub_notes.proofs.NoteLemmas.{progress_then}
 use Rattle.hub_notes.proofs.TieLemmas.{phase_of_away}
-use Rattle.hub_table.specs.Table.{IsTable, table_of}
-use Rattle.hub_core.specs.Turns.{EndsTurn, finishes}
-use Rattle.hub_runs.specs.Agrees.{Agrees}
-use Rattle.hub_runs.proofs.ProgressLemmas.{moves_shown, own_line, other_line}
-use Rattle.hub_runs.proofs.AgreeLemmas.{rests_of}
+use Rattle.hub_notes.specs.Table.{IsTable, table_of}
+use Rattle.hub_notes.specs.Turns.{EndsTurn, finishes}
+use Rattle.run_laws.specs.Agrees.{Agrees}
+use Rattle.run_meaning.proofs.LineLemmas.{own_line, other_line}
+use Rattle.run_meaning.proofs.NoteLemmas.{all_follow}
+use Rattle.run_meaning.proofs.StepLemmas.{moves_shown, open_shown}
+use Rattle.run_laws.proofs.AgreeLemmas.{rests_of}
+use Rattle.run_kept.proofs.EntryLemmas.{order_phase}
 use Rattle.run_kept.specs.Ends.{is_late, AreThere}
-use Rattle.run_kept.proofs.PassingLemmas.{all_of}
 
 -- ---- a note at the end of a turn
 
@@ -87,11 +91,8 @@ open_before (Some Leaving) q e = clash false refl e
 open_before (Some Ending) q e = clash false refl e
 open_before (Some Gone) q e = clash false refl e
 
-same_conn : (c d : ℕ) → nat_eq d c ≡ true → d ≡ c
-same_conn c d e = grind (arith, nat_tests)
-
 leaves_by : (c : ℕ) (p : Option Phase) (n : NoteValue) → is_late n ≡ true → is_of c n ≡ true → leaves_open p (moved p n) ≡ true → LeavesBy c n
-leaves_by c p (note.gone d left) late own e = record { left = left; is = ap (λ (z : ℕ). note.gone z left) (same_conn c d own); sudden = late }
+leaves_by c p (note.gone d left) late own e = record { left = left; is = ap (λ (z : ℕ). note.gone z left) (is_same d c own); sudden = late }
 leaves_by c None n late own e = clash false refl e
 leaves_by c (Some Head) n late own e = clash false refl e
 leaves_by c (Some Leaving) n late own e = clash false refl e
@@ -100,14 +101,6 @@ leaves_by c (Some Gone) n late own e = clash false refl e
 leaves_by c (Some Open) (note.took d offered took) late own e = clash false refl e
 leaves_by c (Some Open) (note.dropped d index held) late own e = clash false refl e
 leaves_by c (Some Open) _ late own e = clash false refl late
-
-open_shown : (p : Option Phase) → is_open (unless_gone p) ≡ is_open p
-open_shown None = refl
-open_shown (Some Head) = refl
-open_shown (Some Open) = refl
-open_shown (Some Leaving) = refl
-open_shown (Some Ending) = refl
-open_shown (Some Gone) = refl
 
 -- ---- the notes at the end of a turn
 
@@ -162,7 +155,7 @@ module _ {S : Type 0} (r : run.Server S) (c : ℕ) where
         split = ap (λ (z : NoteValue). z ∷ ms) by.is;
         from_open = ap (λ (z : List NoteValue). is_open (phase r z c)) (append-nil ns) ∙ sym (open_shown (phase r ns c)) ∙ ap is_open (sym shown) ∙ open_before p.phase (moved p.phase n) leaves;
         sudden = by.sudden;
-        late = all_of is_late is_last_note late_last ms others;
+        late = all_follow is_late is_last_note late_last ms others;
       })
       (λ not_here.
       let x = find (ns ++ n ∷ []) ms (progress_after c n p) cause others (phase_one ns n p this shown) (due_one n p none not_here) e in
@@ -202,7 +195,7 @@ left_at_end r ns a b net ends agrees none c cause e =
     let p = progress_at a.hub c in
     let shape : sent ++ (finishes ends.finished ++ note.turn ∷ []) ≡ ms ++ note.turn ∷ [] = sym (append_assoc sent (finishes ends.finished) (note.turn ∷ [])) in
     let late : list_all is_late ms ≡ true =
-    list_all-append is_late sent (finishes ends.finished) ∙ ap (λ (z : Bool). z && list_all is_late (finishes ends.finished)) (all_of is_outgoing is_late outgoing_late sent ends.proceeds.outgoing) ∙ finishes_late ends.finished in
+    list_all-append is_late sent (finishes ends.finished) ∙ ap (λ (z : Bool). z && list_all is_late (finishes ends.finished)) (all_follow is_outgoing is_late outgoing_late sent ends.proceeds.outgoing) ∙ finishes_late ends.finished in
     let due : (progress_after_all c ms p).due ≡ Some cause = due_before c ms (sent ++ (finishes ends.finished ++ note.turn ∷ [])) p (progress_at b.hub c) shape (ends.proceeds.advances.progress c) ∙ e in
     left_by r c ns ms (sent ++ (finishes ends.finished ++ note.turn ∷ [])) shape (find r c ns ms p cause late (rests_of c ((world r ns).line c) ns a (agrees.lines c)).shown (none c) due)
 
@@ -253,20 +246,44 @@ phase_there Leaving e = refl
 phase_there Ending e = refl
 phase_there Gone e = e
 
-not_true : (b : Bool) → not b ≡ true → b ≡ false
-not_true true e = sym e
-not_true false e = refl
-
--- one connection, after a call of a hub
-pub there_then : (ns : List NoteValue) (a b : Server) (c : ℕ) → Advances ns a b → (a.net.live c ≡ true → is_present a.hub c ≡ true) → b.net.live c ≡ true → is_present b.hub c ≡ true
-there_then ns a b c x there live =
-    let both : (a.net.live c && not (is_gone_in c ns)) ≡ true = sym (x.net.live c) ∙ live in
-    let was = there (and_left (a.net.live c) (not (is_gone_in c ns)) both) in
-    let stays = not_true (is_gone_in c ns) (and_right (a.net.live c) (not (is_gone_in c ns)) both) in
-    let shown = all_stay c ns (progress_at a.hub c) stays (phase_there (entry_at a.hub c).phase was) in
+-- one connection, after a call of a hub by which it stays, unless it is gone
+there_by : (a b : Server) (c : ℕ) (gone : Bool) → b.net.live c ≡ (a.net.live c && not gone)
+    → (gone ≡ false → is_some_phase (unless_gone (progress_at a.hub c).phase) ≡ true → is_some_phase (unless_gone (progress_at b.hub c).phase) ≡ true) → (a.net.live c ≡ true → is_present a.hub c ≡ true)
+    → b.net.live c ≡ true → is_present b.hub c ≡ true
+there_by a b c gone links stays there live =
+    let both : (a.net.live c && not gone) ≡ true = sym links ∙ live in
+    let shown = stays (not-true gone (and_right (a.net.live c) (not gone) both)) (phase_there (entry_at a.hub c).phase (there (and_left (a.net.live c) (not gone) both))) in
     by_cases (is_present b.hub c) (λ now. now)
-    (λ away. clash false refl (sym (ap (λ (z : Option Phase). is_some_phase (unless_gone z)) (phase_of_away b.hub c away))
-    ∙ ap (λ (z : Progress). is_some_phase (unless_gone z.phase)) (x.progress c) ∙ shown))
+    (λ away. clash false refl (sym (ap (λ (z : Option Phase). is_some_phase (unless_gone z)) (phase_of_away b.hub c away)) ∙ shown))
+
+there_then : (ns : List NoteValue) (a b : Server) (c : ℕ) → Advances ns a b → (a.net.live c ≡ true → is_present a.hub c ≡ true) → b.net.live c ≡ true → is_present b.hub c ≡ true
+there_then ns a b c x there live =
+    there_by a b c (is_gone_in c ns) (x.net.live c) (λ stays shown. ap (λ (z : Progress). is_some_phase (unless_gone z.phase)) (x.progress c) ∙ all_stay c ns (progress_at a.hub c) stays shown) there live
+
+-- orders that are served make nobody gone
+order_stays : (from c : ℕ) (o : OrderValue) (p : Progress) → is_some_phase (unless_gone p.phase) ≡ true → is_some_phase (unless_gone (progress_obeys from c o p).phase) ≡ true
+order_stays from c o p e = ⊎_elim
+    (λ same. ap (λ (z : Option Phase). is_some_phase (unless_gone z)) same ∙ e)
+    (λ closed. ap (λ (z : Option Phase). is_some_phase (unless_gone z)) closed ∙ closes p.phase ∙ e)
+    (order_phase from c o p)
+  where
+    closes : (q : Option Phase) → is_some_phase (unless_gone (closing q)) ≡ is_some_phase (unless_gone q)
+    closes None = refl
+    closes (Some Head) = refl
+    closes (Some Open) = refl
+    closes (Some Leaving) = refl
+    closes (Some Ending) = refl
+    closes (Some Gone) = refl
+
+steps_stay : (c : ℕ) (xs : List Step) (p : Progress) → is_gone_in c (notes_of xs) ≡ false → is_some_phase (unless_gone p.phase) ≡ true → is_some_phase (unless_gone (progress_by_steps c xs p).phase) ≡ true
+steps_stay c [] p stays e = e
+steps_stay c (by_note n ∷ xs) p stays e =
+    steps_stay c xs (progress_after c n p) (or_right (is_gone c n) (is_gone_in c (notes_of xs)) stays) (one_stays c n p (or_left (is_gone c n) (is_gone_in c (notes_of xs)) stays) e)
+steps_stay c (by_order from o ∷ xs) p stays e = steps_stay c xs (progress_obeys from c o p) stays (order_stays from c o p e)
+
+pub there_does : (texts : ℕ → List ℕ) (xs : List Step) (a b : Server) → Does texts xs a b → AreThere a → AreThere b
+there_does texts xs a b x there c live =
+    there_by a b c (is_gone_in c (notes_of xs)) (x.net.live c) (λ stays shown. ap (λ (z : Progress). is_some_phase (unless_gone z.phase)) (x.progress c) ∙ steps_stay c xs (progress_at a.hub c) stays shown) (there c) live
 
 -- no link is live
 pub there_first : (s : Server) → ((c : ℕ) → s.net.live c ≡ false) → AreThere s
@@ -298,9 +315,6 @@ there_arrived conn a b net next x table above there c live = ⊎_elim
     (λ (ne : c ≢ conn.0). there_else conn (note.accepted conn.0 ∷ []) a b net next x there c ne live)
     (cases_eq c conn.0)
   where
-    itself : (c : ℕ) → nat_eq c c ≡ true
-    itself c = grind (arith, nat_tests)
-
     shown : (progress_at b.hub conn.0).phase ≡ Some Head
     shown =
         ap phase_in (x.progress conn.0)
@@ -318,10 +332,3 @@ there_shut conn ns a b net later next x shut there c live = ⊎_elim
     (λ (q : c ≡ conn.0). clash (later.live c) (ap later.live q ∙ shut.live) live)
     (λ (ne : c ≢ conn.0). there_else conn ns a b net next x there c ne (sym (shut.live_elsewhere c ne) ∙ live))
     (cases_eq c conn.0)
-
--- ---- who holds octets is there, where no Closed event is due
-
-pub ring_there : (h : HubState) (c : ℕ) → IsTable (table_of h) → due_at h c ≡ None → ring_at h c ≢ [] → is_present h c ≡ true
-ring_there h c table none holds = by_cases (is_present h c) (λ t. t)
-    (λ away. absurd (holds (ap (λ (z : Entry). z.ring)
-    (none_of h.entries c (table.kept c ∙ ap (λ (z : Bool). z || is_some (due_at h c)) away ∙ ap is_some none)))))

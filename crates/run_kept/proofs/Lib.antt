@@ -1,4 +1,5 @@
-pub mod OthersLemmas
+pub mod EntryLemmas
+pub mod IntakeLemmas
 pub mod GivingLemmas
 pub mod ReadingCalls
 pub mod ReadingLemmas
@@ -12,3 +13,8 @@ pub mod EndLemmas
 pub mod ReadLemmas
 pub mod TurnLemmas
 pub mod ThroughoutLemmas
+pub mod CallLemmas
+pub mod KnownLemmas
+pub mod PhaseLemmas
+pub mod PlaceLemmas
+pub mod SoundTurnLemmas

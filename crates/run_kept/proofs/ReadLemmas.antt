@@ -1,31 +1,26 @@
 -- What is ready was read, step by step.
-use Rattle.std.proofs.Common.{◌≡◌, ◌≢◌, ◌<◌, ℕ, List, [], ◌∷◌, Option, Some, None, Bool, true, false, cond, refl, sym, ap, ◌∙◌, ⊎_elim, arith}
-use Rattle.std.proofs.lemmas.Bool.{cases_eq}
-use Rattle.std.proofs.lemmas.Bool.Decides.{nat_tests}
+use Rattle.std.proofs.Common.{◌≡◌, ℕ, List, [], ◌∷◌, Option, Some, None, Bool, true, false, cond, refl, sym, ap, ◌∙◌}
 use Rattle.std.specs.List.{list_any}
-use Rattle.ws_kinds.specs.declared.conn.Conn.{Conn}
 use Rattle.ws_kinds.specs.declared.note.Phase.{Phase}
 use Rattle.ws_kinds.specs.declared.note.Phase.TheVariants.{Head, Open, Leaving, Ending, Gone}
 use Rattle.ws_kinds.specs.NoteValue as note
 use Rattle.ws_kinds.specs.NoteValue.{NoteValue}
 use Rattle.link_trait.specs.NetState.{NetState}
-use Rattle.link_trait.specs.Net.{Same, Nexts, Reads, Shuts}
-use Rattle.link_trait.specs.declared.net.NetEvent.TheVariants as event
-use Rattle.link_trait.specs.declared.net.NetRead.{NetRead}
-use Rattle.run_meaning.specs.Notes.{is_of}
+use Rattle.link_trait.specs.Net.{Same}
+use Rattle.run_meaning.specs.Notes.{is_of, is_acceptance}
 use Rattle.run_meaning.specs.Counts.{has_number, accepted_by, is_accepted}
 use Rattle.run_meaning.specs.Lines.{moved}
 use Rattle.run_meaning.specs.Settled.{is_reading}
 use Rattle.hub_lines.specs.State as hub
 use Rattle.hub_lines.specs.State.{HubState, Server, Entry, has_entry, entry_at, is_present, phase_at}
 use Rattle.hub_lines.proofs.EntryLemmas.{none_of}
-use Rattle.hub_notes.specs.Noted.{is_acceptance}
-use Rattle.hub_notes.specs.Progress.{Progress, unless_gone, progress_at, progress_by, progress_after, progress_after_all}
+use Rattle.hub_notes.specs.Progress.{Progress, progress_at, progress_by, progress_after, progress_after_all}
+use Rattle.run_meaning.specs.Orders.{unless_gone}
 use Rattle.hub_notes.specs.Calls.{Advances}
 use Rattle.hub_notes.proofs.BoolLemmas.{by_cases, clash}
 use Rattle.hub_notes.proofs.TieLemmas.{phase_of_away, present_is_not_gone, unaccepted}
-use Rattle.hub_table.specs.Table.{IsTable, table_of}
-use Rattle.hub_runs.proofs.ProgressLemmas.{none_moves, rest_unaccepted}
+use Rattle.run_meaning.proofs.StepLemmas.{none_moves}
+use Rattle.run_laws.proofs.ProgressLemmas.{rest_unaccepted}
 use Rattle.run_kept.specs.Read.{AreRead}
 
 -- ---- phases
@@ -77,51 +72,8 @@ read_then c ns a b x away read e =
 
 -- ---- steps
 
-is_read : (c d : ℕ) → d ≢ c → Some c ≢ Some d
-is_read c d ne e = ne (let z : c ≡ d = cc in sym z)
-
-pub read_first : (s : Server) → ((c : ℕ) → s.net.due c ≡ false) → AreRead None s
-read_first s none c free e = none c
-
 pub read_same : (s : Server) (net : NetState) (reading : Option ℕ) → Same s.net.due net.due → AreRead reading s → AreRead reading (hub.server s.hub net s.told)
 read_same s net reading same read c free e = same c ∙ read c free e
 
-pub read_ready : (conn : Conn) (s : Server) (net : NetState) → Nexts (event.Readable conn) s.net net → AreRead None s → AreRead (Some conn.0) (hub.server s.hub net s.told)
-read_ready conn s net next read c free e =
-    next.event.due_elsewhere c (λ q. free (ap Some (sym q))) ∙ read c (λ z. let y : None ≡ Some c = z in cc) e
-
-pub read_done : (conn : ℕ) (space : List ℕ) (result : NetRead) (s : Server) (net : NetState) → Reads conn space result s.net net → AreRead (Some conn) s → AreRead None (hub.server s.hub net s.told)
-read_done conn space result s net reads read c free e = ⊎_elim
-    (λ (q : c ≡ conn). ap net.due q ∙ reads.due)
-    (λ (ne : c ≢ conn). reads.due_elsewhere c ne ∙ read c (is_read conn c ne) e)
-    (cases_eq c conn)
-
 pub read_call : (ns : List NoteValue) (a b : Server) (reading : Option ℕ) → Advances ns a b → list_any is_acceptance ns ≡ false → AreRead reading a → AreRead reading b
 read_call ns a b reading x away read c free e = read_then c ns a b x (unaccepted ns c away) (read c free) e
-
--- a connection came
-other_accepted : (c d : ℕ) → d ≢ c → is_accepted d (note.accepted c ∷ []) ≡ false
-other_accepted c d ne = grind (arith, nat_tests)
-
-pub read_arrived : (conn : Conn) (a b : Server) (net : NetState) → Nexts (event.Accept conn) a.net net → Advances (note.accepted conn.0 ∷ []) (hub.server a.hub net a.told) b → AreRead None a → AreRead None b
-read_arrived conn a b net next x read c free e = ⊎_elim
-    (λ (q : c ≡ conn.0). ap b.net.due q ∙ x.net.due conn.0 refl ∙ next.event.due)
-    (λ (ne : c ≢ conn.0). read_then c (note.accepted conn.0 ∷ []) (hub.server a.hub net a.told) b x (other_accepted conn.0 c ne) (λ was. next.event.due_elsewhere c ne ∙ read c free was) e)
-    (cases_eq c conn.0)
-
-pub read_shut : (conn : Conn) (ns : List NoteValue) (a b : Server) (net later : NetState) → Nexts (event.Accept conn) a.net net → Advances ns (hub.server a.hub net a.told) b → list_any is_acceptance ns ≡ false
-    → Shuts conn.0 b.net later → IsTable (table_of a.hub) → a.hub.named < conn.0 → AreRead None a → AreRead None (hub.server b.hub later b.told)
-read_shut conn ns a b net later next x away shut table above read c free e = ⊎_elim
-    (λ (q : c ≡ conn.0). clash (is_reading (phase_at a.hub conn.0)) new (reads_before conn.0 (ap (λ (z : ℕ). is_reading (phase_at b.hub z)) (sym q) ∙ e)))
-    (λ (ne : c ≢ conn.0). shut.due_elsewhere c ne
-    ∙ read_then c ns (hub.server a.hub net a.told) b x (unaccepted ns c away) (λ was. next.event.due_elsewhere c ne ∙ read c free was) e)
-    (cases_eq c conn.0)
-  where
-    reads_before : (c : ℕ) → is_reading (phase_at b.hub c) ≡ true → is_reading (phase_at a.hub c) ≡ true
-    reads_before c e =
-        reads_by a.hub c ∙ all_before c ns (progress_at a.hub c) (unaccepted ns c away) (sym (ap (λ (z : Progress). is_reading z.phase) (x.progress c)) ∙ sym (reads_by b.hub c) ∙ e)
-
-    new : is_reading (phase_at a.hub conn.0) ≡ false
-    new = by_cases (has_entry a.hub.entries conn.0)
-        (λ has. absurd (let low = table.named conn.0 has in omega arith))
-        (λ none. ap (λ (z : Bool). is_reading (cond z (Some (entry_at a.hub conn.0).phase) None)) none)

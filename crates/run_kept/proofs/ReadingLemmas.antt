@@ -19,55 +19,45 @@ use Rattle.link_trait.specs.declared.net.NetRead.TheVariants as read
 use Rattle.route_table.specs.Table.{RouteTable}
 use Rattle.upgrade_head.specs.Judged.{Judged, refuse, more as undecided}
 use Rattle.upgrade_head.specs.Texts.{refusal_text}
-use Rattle.frame_reader.specs.declared.reader.Reader.{Reader}
-use Rattle.frame_reader.specs.declared.step.Step.{Step}
-use Rattle.frame_reader.specs.declared.step.Step.TheVariants as step
-use Rattle.frame_reader.specs.Step.{HasStepped, IsMore, is_last, events_of}
 use Rattle.run_meaning.specs.Counts.{gather}
 use Rattle.run_meaning.specs.Server as run
-use Rattle.run_meaning.specs.Lines.{Line, World, moved, is_open, noted, noted_all, phase, world}
-use Rattle.run_meaning.specs.Life.{Heard, refused, heard, IsLife}
+use Rattle.run_meaning.specs.Lines.{World, moved, is_open, noted, noted_all, phase, world}
+use Rattle.run_meaning.specs.Life.{Heard, heard, last_frame, is_frame_heard}
 use Rattle.run_meaning.specs.Life as life
 use Rattle.run_meaning.specs.Network.{Follows, marks_by}
 use Rattle.run_meaning.specs.Settled.{is_reading}
 use Rattle.hub_lines.specs.Told.{taken_of}
-use Rattle.hub_lines.specs.State.{Server, server, phase_at}
+use Rattle.hub_lines.specs.State.{Server, server, has_entry, phase_at}
 use Rattle.hub_lines.specs.Calls.{nothing, only, served}
-use Rattle.hub_notes.specs.Progress.{unless_gone}
+use Rattle.run_meaning.specs.Orders.{unless_gone}
 use Rattle.hub_notes.specs.Calls.{Advances, Proceeds, Appends}
 use Rattle.hub_notes.specs.NetAfter.{FailsAfter}
 use Rattle.hub_notes.proofs.BoolLemmas.{clash}
-use Rattle.hub_table.specs.Table.{IsTable, table_of}
-use Rattle.hub_core.specs.Answers.{Makes, has_frames}
-use Rattle.hub_runs.specs.Agrees.{Agrees}
-use Rattle.hub_runs.specs.Tests.{is_closed}
-use Rattle.hub_runs.proofs.ProgressLemmas.{wordless_line}
-use Rattle.hub_runs.proofs.AgreeLemmas.{agrees_net}
-use Rattle.hub_runs.proofs.CarryLemmas.{agrees_phase}
-use Rattle.hub_runs.proofs.HubLemmas.{agrees_quiet, agrees_note, items_head, items_ping, items_close, items_failed, agrees_open, agrees_told_phase}
-use Rattle.run_heard.specs.Hears.{HearsFrames, HearsFront}
-use Rattle.run_heard.specs.Unheard.{note_of_event}
-use Rattle.run_heard.proofs.Hearing.{head_fed, frames_fed, then_refused, frames_stepped, frames_more, frames_last}
-use Rattle.run_heard.proofs.Lives.{heard_unheard, heard_then_head, heard_then_event}
-use Rattle.run_follows.specs.Steps.{FollowsBut}
-use Rattle.run_follows.specs.Unread.{is_unread}
-use Rattle.run_follows.proofs.Adding.{same_or_not, but_none, none_but}
-use Rattle.run_follows.proofs.Proceeding.{proceeds_follows}
-use Rattle.run_follows.proofs.Reading.{octets_read, end_read, fault_read, later_read}
-use Rattle.run_kept.specs.Kept.{IntakeView, HearsAt, RestsAt, IsRouted, Kept}
-use Rattle.run_kept.specs.Readers.{IsFed, SameButReader}
-use Rattle.run_kept.proofs.OthersLemmas.{hears_on, rests_judged}
-use Rattle.run_kept.proofs.ReadingCalls.{IsOwn, own_note, entries_stay, moves_own, hears_sent, rests_sent, kept_call}
+use Rattle.hub_notes.specs.Table.{IsTable, table_of}
+use Rattle.hub_notes.specs.Answers.{Makes, has_frames}
+use Rattle.run_laws.specs.Agrees.{Agrees}
+use Rattle.run_laws.specs.Tests.{is_closed}
+use Rattle.run_laws.proofs.ProgressLemmas.{wordless_line}
+use Rattle.run_laws.proofs.AgreeLemmas.{agrees_net}
+use Rattle.run_laws.proofs.CarryLemmas.{agrees_phase}
+use Rattle.run_laws.proofs.HubLemmas.{agrees_quiet, agrees_note, items_head, items_ping, items_close, items_failed, agrees_open, agrees_told_phase}
+use Rattle.run_laws.specs.Readers.{ReaderView, IsFed, IsRead, is_over}
+use Rattle.run_laws.specs.Hears.{HearsFrames, HearsAll, HearsFront, to_come}
+use Rattle.run_laws.specs.Unheard.{note_of_event}
+use Rattle.run_laws.proofs.HearLemmas.{head_fed, head_refused, frames_fed, frames_read, frames_end, come_none, hears_more, hears_same}
+use Rattle.run_laws.proofs.Lives.{heard_unheard, heard_then_head, heard_then_event}
+use Rattle.run_laws.specs.Steps.{FollowsBut}
+use Rattle.run_laws.specs.Unread.{is_unread}
+use Rattle.run_laws.proofs.Adding.{same_or_not, but_none, none_but}
+use Rattle.run_laws.proofs.Proceeding.{proceeds_follows}
+use Rattle.run_laws.proofs.Reading.{octets_read, end_read, fault_read, later_read}
+use Rattle.run_kept.specs.Kept.{IntakeView, HearsAt, RestsAt, IsRouted, SameButReader, Kept}
+use Rattle.run_kept.proofs.IntakeLemmas.{hears_on, rests_judged}
+use Rattle.run_kept.proofs.PassingLemmas.{none_reads, same_told}
+use Rattle.run_kept.proofs.ReadLemmas.{reading_shown}
+use Rattle.run_kept.proofs.ReadingCalls.{IsOwn, own_note, entries_stay, seen_own, seen_sent, kept_call}
 
 -- ---- phases
-
-reading_shown : (p : Option Phase) → is_reading (unless_gone p) ≡ is_reading p
-reading_shown None = refl
-reading_shown (Some Head) = refl
-reading_shown (Some Open) = refl
-reading_shown (Some Leaving) = refl
-reading_shown (Some Ending) = refl
-reading_shown (Some Gone) = refl
 
 frames_shown : (p : Option Phase) → has_frames (unless_gone p) ≡ has_frames p
 frames_shown None = refl
@@ -112,75 +102,56 @@ fail_by (Some Leaving) c code e = refl
 fail_by (Some Ending) c code e = clash false refl e
 fail_by (Some Gone) c code e = clash false refl e
 
--- ---- steps of a reader
+-- ---- what a reader tells
 
-last_of : (s : Step) (c : ℕ) (reason : List ℕ) → events_of s ≡ wire.closed c reason ∷ [] → is_last s ≡ true
-last_of step.More c reason e = cc
-last_of (step.Message kind octets) c reason e = cc
-last_of (step.Ping payload) c reason e = cc
-last_of (step.Pong payload) c reason e = cc
-last_of (step.Close code other) c reason e = refl
-last_of (step.Failed code) c reason e = refl
-
-failed_of : (s : Step) (c : ℕ) → events_of s ≡ wire.failed c ∷ [] → is_last s ≡ true
-failed_of step.More c e = cc
-failed_of (step.Message kind octets) c e = cc
-failed_of (step.Ping payload) c e = cc
-failed_of (step.Pong payload) c e = cc
-failed_of (step.Close code other) c e = refl
-failed_of (step.Failed code) c e = refl
-
-module _ (table : RouteTable) (max : ℕ) where
-  frames_at : (p : Option Phase) (hs : List Heard) (os : List ℕ) (rd : Reader) → has_frames p ≡ true → HearsAt table max p hs os rd → HearsFrames table max hs os rd
+module _ (table : RouteTable) (max : ℕ) (last : Option ℕ) where
+  frames_at : (p : Option Phase) (hs : List Heard) (os : List ℕ) (rd : ReaderView) → has_frames p ≡ true → HearsAt table max p last hs os rd → HearsFrames table max last hs os rd
   frames_at None hs os rd e h = clash false refl e
   frames_at (Some Head) hs os rd e h = clash false refl e
-  frames_at (Some Open) hs os rd e h = h
-  frames_at (Some Leaving) hs os rd e h = h
+  frames_at (Some Open) hs os rd e h = subst (λ (z : Option ℕ). HearsFrames table max z hs os rd) (sym h.0) h.1
+  frames_at (Some Leaving) hs os rd e h = subst (λ (z : Option ℕ). HearsFrames table max z hs os rd) (sym h.1) h.2
   frames_at (Some Ending) hs os rd e h = clash false refl e
   frames_at (Some Gone) hs os rd e h = clash false refl e
 
-  at_frames : (p : Option Phase) (hs : List Heard) (os : List ℕ) (rd : Reader) → has_frames p ≡ true → HearsFrames table max hs os rd → HearsAt table max p hs os rd
-  at_frames None hs os rd e h = clash false refl e
-  at_frames (Some Head) hs os rd e h = clash false refl e
-  at_frames (Some Open) hs os rd e h = h
-  at_frames (Some Leaving) hs os rd e h = h
-  at_frames (Some Ending) hs os rd e h = clash false refl e
-  at_frames (Some Gone) hs os rd e h = clash false refl e
+  -- in the phase that it is in
+  at_frames : (p : Option Phase) (hs ks : List Heard) (os later : List ℕ) (old new : ReaderView) → has_frames p ≡ true → HearsAt table max p last hs os old → HearsFrames table max last ks later new → HearsAt table max p last ks later new
+  at_frames None hs ks os later old new e h x = clash false refl e
+  at_frames (Some Head) hs ks os later old new e h x = clash false refl e
+  at_frames (Some Open) hs ks os later old new e h x = (h.0, subst (λ (z : Option ℕ). HearsFrames table max z ks later new) h.0 x)
+  at_frames (Some Leaving) hs ks os later old new e h x = (h.0, h.1, subst (λ (z : Option ℕ). HearsFrames table max z ks later new) h.1 x)
+  at_frames (Some Ending) hs ks os later old new e h x = clash false refl e
+  at_frames (Some Gone) hs ks os later old new e h x = clash false refl e
 
   -- octets are fed
-  fed_at : (p : Option Phase) (c k : ℕ) (hs : List Heard) (os came : List ℕ) (old new : Reader) → is_reading p ≡ true → IsFed came old new → HearsAt table max p hs os old
-      → HearsAt table max (moved p (note.given c k)) hs (os ++ came) new
+  fed_at : (p : Option Phase) (c k : ℕ) (hs : List Heard) (os came : List ℕ) (old new : ReaderView) → is_reading p ≡ true → IsFed came old new → HearsAt table max p last hs os old
+      → HearsAt table max (moved p (note.given c k)) last hs (os ++ came) new
   fed_at None c k hs os came old new e fed h = clash false refl e
-  fed_at (Some Head) c k hs os came old new e fed h = head_fed max hs os came old new h fed.raw fed.unread fed.max
-  fed_at (Some Open) c k hs os came old new e fed h = frames_fed table max hs os came old new h fed.ahead
-  fed_at (Some Leaving) c k hs os came old new e fed h = frames_fed table max hs os came old new h fed.ahead
+  fed_at (Some Head) c k hs os came old new e fed h = (h.0, head_fed max hs os came old new h.1 fed)
+  fed_at (Some Open) c k hs os came old new e fed h = (h.0, frames_fed table max None hs os came old new h.1 fed)
+  fed_at (Some Leaving) c k hs os came old new e fed h = (h.0, h.1, frames_fed table max (Some h.0) hs os came old new h.2 fed)
   fed_at (Some Ending) c k hs os came old new e fed h = clash false refl e
   fed_at (Some Gone) c k hs os came old new e fed h = clash false refl e
 
-rests_at : (table : RouteTable) (p : Option Phase) (os : List ℕ) (rd : Reader) (s : Step) (old : Reader) → has_frames p ≡ true → HasStepped old s rd → IsMore s → RestsAt table p os rd
-rests_at table None os rd s old e t is = clash false refl e
-rests_at table (Some Head) os rd s old e t is = clash false refl e
-rests_at table (Some Open) os rd s old e t is = t.all_told is
-rests_at table (Some Leaving) os rd s old e t is = t.all_told is
-rests_at table (Some Ending) os rd s old e t is = tt {0}
-rests_at table (Some Gone) os rd s old e t is = tt {0}
+  -- nothing is told, or what is passed over
+  same_at : (p : Option Phase) (hs : List Heard) (os : List ℕ) (events : List Event) (old new : ReaderView) → has_frames p ≡ true → IsRead old events new → hs ++ to_come last (map life.read events) ≡ hs
+      → HearsAt table max p last hs os old → HearsAt table max p last hs os new
+  same_at p hs os events old new e told none h =
+      at_frames p hs hs os os old new e h (subst (λ (z : List Heard). HearsFrames table max last z os new) none (frames_read table max last hs os events old new (frames_at p hs os old e h) told))
 
-abbrev phase_of : Line → Option Phase
-phase_of l = l.phase
+rests_at : (table : RouteTable) (p : Option Phase) (os : List ℕ) (rd : ReaderView) → has_frames p ≡ true → rd.ahead [] ≡ [] → RestsAt table p os rd
+rests_at table None os rd e none = clash false refl e
+rests_at table (Some Head) os rd e none = clash false refl e
+rests_at table (Some Open) os rd e none = none
+rests_at table (Some Leaving) os rd e none = none
+rests_at table (Some Ending) os rd e none = tt {0}
+rests_at table (Some Gone) os rd e none = tt {0}
 
 -- all stays but what the reader of one connection has
 same_intakes : (c : ℕ) (intakes : ℕ → IntakeView) → SameButReader c intakes intakes
 same_intakes c intakes = record { route = refl; param = refl; others = λ d ne. refl }
 
--- what the watch told is what is kept
-told_both : (xs after : List NoteValue) (told : Option (List NoteValue)) → told ≡ Some xs → told ≡ Some after → after ≡ xs
-told_both xs after told e h = let z : Some after ≡ Some xs = sym h ∙ e in cc
-
 some_other : (c d : ℕ) → d ≢ c → Some c ≢ Some d
 some_other c d ne e = ne (let z : c ≡ d = cc in sym z)
-
-none_other : (c : ℕ) → None ≢ Some c
-none_other c e = cc
 
 -- ---- reads
 
@@ -204,7 +175,7 @@ module _ {S : Type 0} (r : run.Server S) (config : ConfigValue) (table : RouteTa
     state = k.state;
     unlike = k.unlike;
     configured = k.configured;
-    hears = λ d. subst (λ (z : List ℕ). HearsAt table config.max_message (phase r ns d) (heard d ns) z (intakes d).reader) (sym (given d)) (k.hears d);
+    hears = λ d. subst (λ (z : List ℕ). HearsAt table config.max_message (phase r ns d) (last_frame r ns d) (heard d ns) z (intakes d).reader) (sym (given d)) (k.hears d);
     rests = λ d free. subst (λ (z : List ℕ). RestsAt table (phase r ns d) z (intakes d).reader) (sym (given d)) (k.rests d free);
     routed = k.routed;
   }
@@ -218,17 +189,17 @@ module _ {S : Type 0} (r : run.Server S) (config : ConfigValue) (table : RouteTa
       → SameButReader conn intakes fed → IsFed (take count space) (intakes conn).reader (fed conn).reader
       → Kept r config table (ns ++ note.given conn count ∷ []) b now fed (Some conn)
   given_kept ns after conn count space s b net now intakes fed k rd before later is makes app told same came =
-      kept_call r config table conn ns n own [] refl s b now intakes fed None (Some conn) k (λ c ne. none_other c)
+      kept_call r config table conn ns n own [] refl s b now intakes fed None (Some conn) k (λ c ne. none_reads c)
       (agrees_quiet r (world r ns) ns after (n ∷ []) between b (agrees_read (world r ns) ns s conn space (read.Octets count) net k.agrees rd) makes.advances app told refl)
       (octets_read conn space s.net net b.net k.agrees.tells ns k.follows count rd makes.advances.net makes.fails)
-      app.lines.config (entries_stay n [] between b refl refl makes.advances before later) same
+      app.lines.config entries same
       (λ c ne. after_read c ∙ (rd.told k.agrees.tells).elsewhere.given c ne)
-      (subst (λ (z : Option Phase). HearsAt table config.max_message z (heard conn (ns ++ n ∷ [])) (b.net.given conn) (fed conn).reader) (sym (moves_own r config table conn ns n own))
-      (subst (λ (z : List Heard). HearsAt table config.max_message (moved (phase r ns conn) n) z (b.net.given conn) (fed conn).reader) (sym (heard_unheard conn ns (n ∷ []) refl))
-      (subst (λ (z : List ℕ). HearsAt table config.max_message (moved (phase r ns conn) n) (heard conn ns) z (fed conn).reader) (sym (after_read conn ∙ (rd.told k.agrees.tells).given))
-      (fed_at table config.max_message (phase r ns conn) conn count (heard conn ns) (s.net.given conn) (take count space) (intakes conn).reader (fed conn).reader
-      (reading_by (world r ns) ns s k.agrees conn is) came (k.hears conn)))))
-      (λ ne. absurd (ne refl))
+      (seen_own r config table conn ns n own (b.net.given conn) (fed conn) (Some conn ≢ Some conn) (has_entry b.hub.entries conn ≡ true)
+      (subst (λ (z : List Heard). HearsAt table config.max_message (moved (phase r ns conn) n) (last_frame r ns conn) z (b.net.given conn) (fed conn).reader) (sym (heard_unheard conn ns (n ∷ []) refl))
+      (subst (λ (z : List ℕ). HearsAt table config.max_message (moved (phase r ns conn) n) (last_frame r ns conn) (heard conn ns) z (fed conn).reader) (sym (after_read conn ∙ (rd.told k.agrees.tells).given))
+      (fed_at table config.max_message (last_frame r ns conn) (phase r ns conn) conn count (heard conn ns) (s.net.given conn) (take count space) (intakes conn).reader (fed conn).reader
+      (reading_by (world r ns) ns s k.agrees conn is) came (k.hears conn))))
+      (λ ne. absurd (ne refl)) (λ has. let y = k.routed conn (entries conn has) in (same.route ∙ y.0, same.param ∙ y.1)))
     where
       n : NoteValue
       n = note.given conn count
@@ -242,22 +213,26 @@ module _ {S : Type 0} (r : run.Server S) (config : ConfigValue) (table : RouteTa
       after_read : (c : ℕ) → b.net.given c ≡ net.given c
       after_read c = (makes.advances.net.told (rd.net.tells ∙ k.agrees.tells)).given c
 
+      entries : (c : ℕ) → has_entry b.hub.entries c ≡ true → has_entry s.hub.entries c ≡ true
+      entries = entries_stay n [] between b refl refl makes.advances before later
+
   gone_kept : (ns after : List NoteValue) (conn : ℕ) (left : Left) (space : List ℕ) (result : NetRead) (s b : Server) (net : NetState) (now : S) (intakes : ℕ → IntakeView)
       → Kept r config table ns s now intakes None → Reads conn space result s.net net → net.given conn ≡ s.net.given conn → IsTable (table_of s.hub) → IsTable (table_of b.hub) → is_reading (phase_at s.hub conn) ≡ true
       → Advances (note.gone conn left ∷ []) (server s.hub net s.told) b → Appends nothing (server s.hub net s.told) b → b.told ≡ Some after
       → Follows (ns ++ note.gone conn left ∷ []) b.net → Kept r config table (ns ++ note.gone conn left ∷ []) b now intakes None
   gone_kept ns after conn left space result s b net now intakes k rd still before later is adv app told follows =
-      kept_call r config table conn ns n own [] refl s b now intakes intakes None None k (λ c ne. none_other c)
+      kept_call r config table conn ns n own [] refl s b now intakes intakes None None k (λ c ne. none_reads c)
       (agrees_quiet r (world r ns) ns after (n ∷ []) between b (agrees_read (world r ns) ns s conn space result net k.agrees rd) adv app told refl)
-      follows app.lines.config (entries_stay n [] between b refl refl adv before later) (same_intakes conn intakes)
+      follows app.lines.config entries (same_intakes conn intakes)
       (λ c ne. after_read c ∙ (rd.told k.agrees.tells).elsewhere.given c ne)
-      (subst (λ (z : Option Phase). HearsAt table config.max_message z (heard conn (ns ++ n ∷ [])) (b.net.given conn) (intakes conn).reader) (sym moves)
-      (subst (λ (z : List Heard). HearsFront table config.max_message z (b.net.given conn)) (sym (heard_unheard conn ns (n ∷ []) refl))
-      (subst (λ (z : List ℕ). HearsFront table config.max_message (heard conn ns) z) (sym (after_read conn ∙ still))
-      (hears_on table config.max_message (heard conn ns) (s.net.given conn) (intakes conn).reader (phase r ns conn) (Some Gone) (k.hears conn)
-      (rests_judged table config.max_message (heard conn ns) (s.net.given conn) (intakes conn).reader (phase r ns conn) (k.rests conn (none_other conn)))
+      (seen_own r config table conn ns n own (b.net.given conn) (intakes conn) (None ≢ Some conn) (has_entry b.hub.entries conn ≡ true)
+      (subst (λ (z : Option Phase). HearsAt table config.max_message z (last_frame r ns conn) (heard conn (ns ++ n ∷ [])) (b.net.given conn) (intakes conn).reader) (sym moves)
+      (subst (λ (z : List Heard). HearsFront table config.max_message (last_frame r ns conn) z (b.net.given conn)) (sym (heard_unheard conn ns (n ∷ []) refl))
+      (subst (λ (z : List ℕ). HearsFront table config.max_message (last_frame r ns conn) (heard conn ns) z) (sym (after_read conn ∙ still))
+      (hears_on table config.max_message (heard conn ns) (s.net.given conn) (intakes conn).reader (phase r ns conn) (Some Gone) (last_frame r ns conn) (k.hears conn)
+      (rests_judged table (phase r ns conn) (s.net.given conn) (intakes conn).reader (k.rests conn (none_reads conn)))
       (inr (refl, reading_is (phase r ns conn) was))))))
-      (λ free. subst (λ (z : Option Phase). RestsAt table z (b.net.given conn) (intakes conn).reader) (sym moves) (tt {0}))
+      (λ free. subst (λ (z : Option Phase). RestsAt table z (b.net.given conn) (intakes conn).reader) (sym moves) (tt {0})) (λ has. k.routed conn (entries conn has)))
     where
       n : NoteValue
       n = note.gone conn left
@@ -271,8 +246,11 @@ module _ {S : Type 0} (r : run.Server S) (config : ConfigValue) (table : RouteTa
       was : is_reading (phase r ns conn) ≡ true
       was = reading_by (world r ns) ns s k.agrees conn is
 
-      moves : phase r (ns ++ n ∷ []) conn ≡ Some Gone
-      moves = moves_own r config table conn ns n own ∙ gone_by (phase r ns conn) conn left was
+      moves : moved (phase r ns conn) n ≡ Some Gone
+      moves = gone_by (phase r ns conn) conn left was
+
+      entries : (c : ℕ) → has_entry b.hub.entries c ≡ true → has_entry s.hub.entries c ≡ true
+      entries = entries_stay n [] between b refl refl adv before later
 
       after_read : (c : ℕ) → b.net.given c ≡ net.given c
       after_read c = (adv.net.told (rd.net.tells ∙ k.agrees.tells)).given c
@@ -295,26 +273,11 @@ module _ {S : Type 0} (r : run.Server S) (config : ConfigValue) (table : RouteTa
 
   -- ---- no more can be told
 
-  pub waits_kept : (ns : List NoteValue) (conn : ℕ) (s : Server) (now : S) (intakes : ℕ → IntakeView) → Kept r config table ns s now intakes (Some conn) → phase_at s.hub conn ≡ Some Head
-      → Judged table (s.net.given conn) undecided → Kept r config table ns s now intakes None
-  waits_kept ns conn s now intakes k is judged = record {
-    agrees = k.agrees;
-    follows = k.follows;
-    ordered = k.ordered;
-    state = k.state;
-    unlike = k.unlike;
-    configured = k.configured;
-    hears = k.hears;
-    rests = λ d free. same_or_not conn d
-        (λ e. subst (λ (z : ℕ). RestsAt table (phase r ns z) (s.net.given z) (intakes z).reader) (sym e)
-        (subst (λ (z : Option Phase). RestsAt table z (s.net.given conn) (intakes conn).reader) (sym (agrees_told_phase (world r ns) ns s k.agrees conn Head refl is)) judged))
-        (λ ne. k.rests d (some_other conn d ne));
-    routed = k.routed;
-  }
-
-  pub stepped_kept : (ns : List NoteValue) (conn : ℕ) (s : Server) (now : S) (intakes news : ℕ → IntakeView) (t : Step) → Kept r config table ns s now intakes (Some conn) → has_frames (phase_at s.hub conn) ≡ true
-      → SameButReader conn intakes news → HasStepped (intakes conn).reader t (news conn).reader → IsMore t → Kept r config table ns s now news None
-  stepped_kept ns conn s now intakes news t k is same steps none = record {
+  -- the reader of one connection told nothing that is heard of it
+  stays_kept : (ns : List NoteValue) (conn : ℕ) (s : Server) (now : S) (intakes news : ℕ → IntakeView) (later : Option ℕ) → Kept r config table ns s now intakes (Some conn) → SameButReader conn intakes news
+      → HearsAt table config.max_message (phase r ns conn) (last_frame r ns conn) (heard conn ns) (s.net.given conn) (news conn).reader → (later ≢ Some conn → RestsAt table (phase r ns conn) (s.net.given conn) (news conn).reader)
+      → Kept r config table ns s now news later
+  stays_kept ns conn s now intakes news later k same hears rests = record {
     agrees = k.agrees;
     follows = k.follows;
     ordered = k.ordered;
@@ -322,22 +285,44 @@ module _ {S : Type 0} (r : run.Server S) (config : ConfigValue) (table : RouteTa
     unlike = k.unlike;
     configured = k.configured;
     hears = λ d. same_or_not conn d
-        (λ e. subst (λ (z : ℕ). HearsAt table config.max_message (phase r ns z) (heard z ns) (s.net.given z) (news z).reader) (sym e)
-        (at_frames table config.max_message (phase r ns conn) (heard conn ns) (s.net.given conn) (news conn).reader was
-        (frames_more table config.max_message (heard conn ns) (s.net.given conn) t (intakes conn).reader (news conn).reader
-        (frames_at table config.max_message (phase r ns conn) (heard conn ns) (s.net.given conn) (intakes conn).reader was (k.hears conn)) steps none).0))
-        (λ ne. subst (λ (z : IntakeView). HearsAt table config.max_message (phase r ns d) (heard d ns) (s.net.given d) z.reader) (sym (same.others d ne)) (k.hears d));
+        (λ e. subst (λ (z : ℕ). HearsAt table config.max_message (phase r ns z) (last_frame r ns z) (heard z ns) (s.net.given z) (news z).reader) (sym e) hears)
+        (λ ne. subst (λ (z : IntakeView). HearsAt table config.max_message (phase r ns d) (last_frame r ns d) (heard d ns) (s.net.given d) z.reader) (sym (same.others d ne)) (k.hears d));
     rests = λ d free. same_or_not conn d
-        (λ e. subst (λ (z : ℕ). RestsAt table (phase r ns z) (s.net.given z) (news z).reader) (sym e)
-        (rests_at table (phase r ns conn) (s.net.given conn) (news conn).reader t (intakes conn).reader was steps none))
+        (λ e. subst (λ (z : ℕ). later ≢ Some z → RestsAt table (phase r ns z) (s.net.given z) (news z).reader) (sym e) rests free)
         (λ ne. subst (λ (z : IntakeView). RestsAt table (phase r ns d) (s.net.given d) z.reader) (sym (same.others d ne)) (k.rests d (some_other conn d ne)));
     routed = λ d there. same_or_not conn d
         (λ e. subst (λ (z : ℕ). IsRouted (intakes z) ((world r ns).line z) → IsRouted (news z) ((world r ns).line z)) (sym e) (λ y. (same.route ∙ y.0, same.param ∙ y.1)) (k.routed d there))
         (λ ne. subst (λ (z : IntakeView). IsRouted z ((world r ns).line d)) (sym (same.others d ne)) (k.routed d there));
   }
-    where
-      was : has_frames (phase r ns conn) ≡ true
-      was = frames_by (world r ns) ns s k.agrees conn is
+
+  pub waits_kept : (ns : List NoteValue) (conn : ℕ) (s : Server) (now : S) (intakes : ℕ → IntakeView) → Kept r config table ns s now intakes (Some conn) → phase_at s.hub conn ≡ Some Head
+      → Judged table (s.net.given conn) undecided → Kept r config table ns s now intakes None
+  waits_kept ns conn s now intakes k is judged =
+      stays_kept ns conn s now intakes intakes None k (same_intakes conn intakes) (k.hears conn)
+      (λ free. subst (λ (z : Option Phase). RestsAt table z (s.net.given conn) (intakes conn).reader) (sym (agrees_told_phase (world r ns) ns s k.agrees conn Head refl is)) judged)
+
+  -- it has no further event
+  pub stepped_kept : (ns : List NoteValue) (conn : ℕ) (s : Server) (now : S) (intakes news : ℕ → IntakeView) → Kept r config table ns s now intakes (Some conn) → has_frames (phase_at s.hub conn) ≡ true
+      → SameButReader conn intakes news → IsRead (intakes conn).reader [] (news conn).reader → Kept r config table ns s now news None
+  stepped_kept ns conn s now intakes news k is same told =
+      let was = frames_by (world r ns) ns s k.agrees conn is in
+      let last = last_frame r ns conn in
+      stays_kept ns conn s now intakes news None k same
+      (same_at table config.max_message last (phase r ns conn) (heard conn ns) (s.net.given conn) [] (intakes conn).reader (news conn).reader was told
+      (ap (λ (z : List Heard). heard conn ns ++ z) (come_none last) ∙ append-nil (heard conn ns)) (k.hears conn))
+      (λ free. rests_at table (phase r ns conn) (s.net.given conn) (news conn).reader was (told.none refl))
+
+  -- a message, a ping or a pong is passed over in phase Leaving
+  pub passed_kept : (ns : List NoteValue) (conn : ℕ) (event : Event) (s : Server) (now : S) (intakes news : ℕ → IntakeView) → Kept r config table ns s now intakes (Some conn) → phase_at s.hub conn ≡ Some Leaving
+      → SameButReader conn intakes news → IsRead (intakes conn).reader (event ∷ []) (news conn).reader → is_frame_heard (life.read event) ≡ true → Kept r config table ns s now news (Some conn)
+  passed_kept ns conn event s now intakes news k is same told frame =
+      let at : phase r ns conn ≡ Some Leaving = agrees_told_phase (world r ns) ns s k.agrees conn Leaving refl is in
+      let last = last_frame r ns conn in
+      let count = subst (λ (z : Option Phase). HearsAt table config.max_message z last (heard conn ns) (s.net.given conn) (intakes conn).reader) at (k.hears conn) in
+      stays_kept ns conn s now intakes news (Some conn) k same
+      (same_at table config.max_message last (phase r ns conn) (heard conn ns) (s.net.given conn) (event ∷ []) (intakes conn).reader (news conn).reader (ap has_frames at) told
+      (ap (λ (z : Option ℕ). heard conn ns ++ to_come z (map life.read (event ∷ []))) count.1 ∙ hears_same count.0 (heard conn ns) event frame) (k.hears conn))
+      (λ free. absurd (free refl))
 
   -- ---- what came is told
 
@@ -345,7 +330,7 @@ module _ {S : Type 0} (r : run.Server S) (config : ConfigValue) (table : RouteTa
       → Kept r config table ns a now intakes (Some conn) → IsTable (table_of a.hub) → IsTable (table_of b.hub) → IsOwn conn n → list_all is_unread (n ∷ []) ≡ true → gather marks_by (n ∷ []) ≡ []
       → is_closed n ≡ false → ((c : ℕ) → ((noted r n (world r ns)).line c).items ≡ ((world r ns).line c).items ++ f c) → Appends f a b → b.told ≡ Some after
       → SameButReader conn intakes news → moved (phase r ns conn) n ≡ p → p ≢ Some Head
-      → HearsAt table config.max_message p (heard conn (ns ++ n ∷ [])) (a.net.given conn) (news conn).reader
+      → HearsAt table config.max_message p (last_frame r ns conn) (heard conn (ns ++ n ∷ [])) (a.net.given conn) (news conn).reader
       → (later ≢ Some conn → RestsAt table p (a.net.given conn) (news conn).reader)
       → (after ≡ ns ++ n ∷ x.sending) × Kept r config table after b now news later
   sends_kept conn ns after n f a b now intakes news later p x k before after_is own unread unmarked none items app told same moves ne hears rests =
@@ -358,46 +343,44 @@ module _ {S : Type 0} (r : run.Server S) (config : ConfigValue) (table : RouteTa
       agrees = agrees_note r (world r ns) ns after n f a b x k.agrees app told own.accepts none items
 
       after_all : after ≡ ns ++ n ∷ x.sending
-      after_all = told_both (ns ++ n ∷ x.sending) after b.told agrees.told told
+      after_all = same_told after (ns ++ n ∷ x.sending) b.told told agrees.told
 
-      now_is : phase r (ns ++ n ∷ []) conn ≡ p
-      now_is = moves_own r config table conn ns n own ∙ moves
+      entries : (c : ℕ) → has_entry b.hub.entries c ≡ true → has_entry a.hub.entries c ≡ true
+      entries = entries_stay n x.sending a b own.accepts x.outgoing (subst (λ (z : List NoteValue). Advances (n ∷ z) a b) (append-nil x.sending) x.advances) before after_is
 
       all : Kept r config table (ns ++ n ∷ x.sending) b now news later
       all = kept_call r config table conn ns n own x.sending x.outgoing a b now intakes news (Some conn) later k (λ c other. some_other conn c other) agrees
           (none_but (ns ++ n ∷ x.sending) b.net (subst (λ (z : List NoteValue). FollowsBut [] (ns ++ n ∷ z) b.net) (append-nil x.sending)
           (proceeds_follows ns (n ∷ []) [] [] [] [] a b k.agrees.tells unread unmarked refl x (but_none ns a.net k.follows))))
           app.lines.config
-          (entries_stay n x.sending a b own.accepts x.outgoing (subst (λ (z : List NoteValue). Advances (n ∷ z) a b) (append-nil x.sending) x.advances) before after_is)
-          same (λ c other. given c)
-          (subst (λ (z : List ℕ). HearsAt table config.max_message (phase r (ns ++ n ∷ x.sending) conn) (heard conn (ns ++ n ∷ x.sending)) z (news conn).reader) (sym (given conn))
-          (hears_sent r config table conn ns n own x.sending x.outgoing (a.net.given conn) (news conn).reader (λ e. ne (sym now_is ∙ e))
-          (subst (λ (z : Option Phase). HearsAt table config.max_message z (heard conn (ns ++ n ∷ [])) (a.net.given conn) (news conn).reader) (sym now_is) hears)))
-          (λ free. subst (λ (z : List ℕ). RestsAt table (phase r (ns ++ n ∷ x.sending) conn) z (news conn).reader) (sym (given conn))
-          (rests_sent r config table conn ns n own x.sending x.outgoing (a.net.given conn) (news conn).reader
-          (subst (λ (z : Option Phase). RestsAt table z (a.net.given conn) (news conn).reader) (sym now_is) (rests free))))
-
-  -- what is kept where the reader told an event
-  heard_step : (conn : ℕ) (ns : List NoteValue) (event : Event) (t : Step) → events_of t ≡ event ∷ [] → heard conn ns ++ map life.read (events_of t) ≡ heard conn (ns ++ note_of_event conn event ∷ [])
-  heard_step conn ns event t e = ap (λ (z : List Event). heard conn ns ++ map life.read z) e ∙ sym (heard_then_event conn event ns)
+          entries same (λ c other. given c)
+          (seen_sent r config table conn ns n own x.sending x.outgoing (b.net.given conn) (news conn) (later ≢ Some conn) (has_entry b.hub.entries conn ≡ true) (λ e. ne (sym moves ∙ e))
+          (seen_own r config table conn ns n own (b.net.given conn) (news conn) (later ≢ Some conn) (has_entry b.hub.entries conn ≡ true)
+          (subst (λ (z : Option Phase). HearsAt table config.max_message z (last_frame r ns conn) (heard conn (ns ++ n ∷ [])) (b.net.given conn) (news conn).reader) (sym moves)
+          (subst (λ (z : List ℕ). HearsAt table config.max_message p (last_frame r ns conn) (heard conn (ns ++ n ∷ [])) z (news conn).reader) (sym (given conn)) hears))
+          (λ free. subst (λ (z : Option Phase). RestsAt table z (b.net.given conn) (news conn).reader) (sym moves)
+          (subst (λ (z : List ℕ). RestsAt table p z (news conn).reader) (sym (given conn)) (rests free)))
+          (λ has. let y = k.routed conn (entries conn has) in (same.route ∙ y.0, same.param ∙ y.1))))
 
   open_of : (ns : List NoteValue) (s : Server) (conn : ℕ) → Agrees (world r ns) ns s → phase_at s.hub conn ≡ Some Open → phase r ns conn ≡ Some Open
   open_of ns s conn x is = agrees_told_phase (world r ns) ns s x conn Open refl is
 
-  has_open : (p : Option Phase) → p ≡ Some Open → has_frames p ≡ true
-  has_open p e = ap (λ (z : Option Phase). has_frames z) e
+  -- what is heard where the reader told an event: of an open connection
+  read_open : (conn : ℕ) (ns : List NoteValue) (event : Event) (os : List ℕ) (old new : ReaderView) → phase r ns conn ≡ Some Open → IsRead old (event ∷ []) new
+      → HearsAt table config.max_message (phase r ns conn) (last_frame r ns conn) (heard conn ns) os old → HearsAt table config.max_message (Some Open) (last_frame r ns conn) (heard conn (ns ++ note_of_event conn event ∷ [])) os new
+  read_open conn ns event os old new is told h =
+      let x : HearsAt table config.max_message (Some Open) (last_frame r ns conn) (heard conn ns) os old = subst (λ (z : Option Phase). HearsAt table config.max_message z (last_frame r ns conn) (heard conn ns) os old) is h in
+      (x.0, subst (λ (z : List Heard). HearsFrames table config.max_message None z os new) (sym (heard_then_event conn event ns)) (frames_read table config.max_message None (heard conn ns) os (event ∷ []) old new x.1 told))
 
-  read_at : (conn : ℕ) (ns : List NoteValue) (event : Event) (t : Step) (os : List ℕ) (old new : Reader) → has_frames (phase r ns conn) ≡ true → events_of t ≡ event ∷ [] → HasStepped old t new
-      → HearsAt table config.max_message (phase r ns conn) (heard conn ns) os old → HearsFrames table config.max_message (heard conn (ns ++ note_of_event conn event ∷ [])) os new
-  read_at conn ns event t os old new has e steps h =
-      subst (λ (z : List Heard). HearsFrames table config.max_message z os new) (heard_step conn ns event t e)
-      (frames_stepped table config.max_message (heard conn ns) os t old new (frames_at table config.max_message (phase r ns conn) (heard conn ns) os old has h) steps)
-
-  last_at : (conn : ℕ) (ns : List NoteValue) (event : Event) (t : Step) (os : List ℕ) (old new : Reader) → has_frames (phase r ns conn) ≡ true → events_of t ≡ event ∷ [] → is_last t ≡ true → HasStepped old t new
-      → HearsAt table config.max_message (phase r ns conn) (heard conn ns) os old → IsLife table config.max_message os (heard conn (ns ++ note_of_event conn event ∷ []))
-  last_at conn ns event t os old new has e last steps h =
-      subst (λ (z : List Heard). IsLife table config.max_message os z) (heard_step conn ns event t e)
-      (frames_last table config.max_message (heard conn ns) os t old new (frames_at table config.max_message (phase r ns conn) (heard conn ns) os old has h) steps last)
+  -- and where it told a close or a failure
+  read_last : (conn : ℕ) (ns : List NoteValue) (event : Event) (os : List ℕ) (old new : ReaderView) → has_frames (phase r ns conn) ≡ true → is_over event ≡ true → is_frame_heard (life.read event) ≡ false → IsRead old (event ∷ []) new
+      → HearsAt table config.max_message (phase r ns conn) (last_frame r ns conn) (heard conn ns) os old → HearsAll table config.max_message (last_frame r ns conn) (heard conn (ns ++ note_of_event conn event ∷ [])) os
+  read_last conn ns event os old new has over other told h =
+      let last = last_frame r ns conn in
+      let all = heard conn ns ++ to_come last (map life.read (event ∷ [])) in
+      subst (λ (z : List Heard). HearsAll table config.max_message last z os) (hears_more last (heard conn ns) event other ∙ sym (heard_then_event conn event ns))
+      (frames_end table config.max_message last all os new
+      (frames_read table config.max_message last (heard conn ns) os (event ∷ []) old new (frames_at table config.max_message last (phase r ns conn) (heard conn ns) os old has h) told) (told.none over))
 
   pub refused_kept : (ns after : List NoteValue) (conn status : ℕ) (a b : Server) (now : S) (intakes : ℕ → IntakeView) (x : Proceeds (note.head conn status ∷ []) [] a b)
       → Kept r config table ns a now intakes (Some conn) → IsTable (table_of a.hub) → IsTable (table_of b.hub) → phase_at a.hub conn ≡ Some Head → Judged table (a.net.given conn) (refuse status)
@@ -407,41 +390,44 @@ module _ {S : Type 0} (r : run.Server S) (config : ConfigValue) (table : RouteTa
       sends_kept conn ns after (note.head conn status) (only conn (reply (refusal_text status))) a b now intakes intakes None (Some Ending) x k before later
       (own_note conn (note.head conn status) refl refl refl (λ c. refl)) refl refl refl (λ c. items_head r (world r ns) conn c status (refusal_text status) refl) app told
       (same_intakes conn intakes) (ap (λ (z : Option Phase). moved z (note.head conn status)) was) (λ e. cc)
-      (subst (λ (z : List Heard). IsLife table config.max_message (a.net.given conn) z) (sym (heard_then_head conn status ns))
-      (then_refused table config.max_message (heard conn ns) (a.net.given conn) (intakes conn).reader status
-      (subst (λ (z : Option Phase). HearsAt table config.max_message z (heard conn ns) (a.net.given conn) (intakes conn).reader) was (k.hears conn)) judged))
+      (subst (λ (z : List Heard). HearsAll table config.max_message (last_frame r ns conn) z (a.net.given conn)) (sym (heard_then_head conn status ns))
+      (subst (λ (z : Option ℕ). HearsAll table config.max_message z (heard conn ns ++ life.refused status ∷ []) (a.net.given conn)) (sym head.0)
+      (head_refused table config.max_message (heard conn ns) (a.net.given conn) (intakes conn).reader status head.1 judged)))
       (λ free. tt {0})
     where
       was : phase r ns conn ≡ Some Head
       was = agrees_told_phase (world r ns) ns a k.agrees conn Head refl is
 
-  pub ping_kept : (ns after : List NoteValue) (conn : ℕ) (body : List ℕ) (a b : Server) (now : S) (intakes news : ℕ → IntakeView) (t : Step) (x : Proceeds (note.ping_got conn body ∷ []) [] a b)
+      head : HearsAt table config.max_message (Some Head) (last_frame r ns conn) (heard conn ns) (a.net.given conn) (intakes conn).reader
+      head = subst (λ (z : Option Phase). HearsAt table config.max_message z (last_frame r ns conn) (heard conn ns) (a.net.given conn) (intakes conn).reader) was (k.hears conn)
+
+  pub ping_kept : (ns after : List NoteValue) (conn : ℕ) (body : List ℕ) (a b : Server) (now : S) (intakes news : ℕ → IntakeView) (x : Proceeds (note.ping_got conn body ∷ []) [] a b)
       → Kept r config table ns a now intakes (Some conn) → IsTable (table_of a.hub) → IsTable (table_of b.hub) → phase_at a.hub conn ≡ Some Open
-      → SameButReader conn intakes news → HasStepped (intakes conn).reader t (news conn).reader → events_of t ≡ wire.ping body ∷ []
+      → SameButReader conn intakes news → IsRead (intakes conn).reader (wire.ping body ∷ []) (news conn).reader
       → Appends (only conn (whole Pong body)) a b → b.told ≡ Some after
       → (after ≡ ns ++ note.ping_got conn body ∷ x.sending) × Kept r config table after b now news (Some conn)
-  ping_kept ns after conn body a b now intakes news t x k before later is same steps e app told =
+  ping_kept ns after conn body a b now intakes news x k before later is same read_it app told =
       sends_kept conn ns after (note.ping_got conn body) (only conn (whole Pong body)) a b now intakes news (Some conn) (Some Open) x k before later
       (own_note conn (note.ping_got conn body) refl refl refl (λ c. refl)) refl refl refl (λ c. items_ping r (world r ns) conn c body) app told
       same (ap (λ (z : Option Phase). moved z (note.ping_got conn body)) was) (λ q. cc)
-      (read_at conn ns (wire.ping body) t (a.net.given conn) (intakes conn).reader (news conn).reader (has_open (phase r ns conn) was) e steps (k.hears conn))
+      (read_open conn ns (wire.ping body) (a.net.given conn) (intakes conn).reader (news conn).reader was read_it (k.hears conn))
       (λ free. absurd (free refl))
     where
       was : phase r ns conn ≡ Some Open
       was = open_of ns a conn k.agrees is
 
-  pub pong_kept : (ns after : List NoteValue) (conn : ℕ) (body : List ℕ) (a b : Server) (now : S) (intakes news : ℕ → IntakeView) (t : Step)
+  pub pong_kept : (ns after : List NoteValue) (conn : ℕ) (body : List ℕ) (a b : Server) (now : S) (intakes news : ℕ → IntakeView)
       → Kept r config table ns a now intakes (Some conn) → IsTable (table_of a.hub) → IsTable (table_of b.hub) → phase_at a.hub conn ≡ Some Open
-      → SameButReader conn intakes news → HasStepped (intakes conn).reader t (news conn).reader → events_of t ≡ wire.pong body ∷ []
+      → SameButReader conn intakes news → IsRead (intakes conn).reader (wire.pong body ∷ []) (news conn).reader
       → Makes (note.pong_got conn body ∷ []) a b → Appends nothing a b → b.told ≡ Some after
       → (after ≡ ns ++ note.pong_got conn body ∷ []) × Kept r config table after b now news (Some conn)
-  pong_kept ns after conn body a b now intakes news t k before later is same steps e makes app told =
+  pong_kept ns after conn body a b now intakes news k before later is same read_it makes app told =
       sends_kept conn ns after (note.pong_got conn body) nothing a b now intakes news (Some conn) (Some Open)
       (record { sending = []; outgoing = refl; advances = makes.advances; fails = makes.fails }) k before later
       (own_note conn (note.pong_got conn body) refl refl refl (λ c. refl)) refl refl refl
       (λ c. wordless_line r c (note.pong_got conn body) ((world r ns).line c) refl ∙ sym (append-nil ((world r ns).line c).items)) app told
       same (ap (λ (z : Option Phase). moved z (note.pong_got conn body)) was) (λ q. cc)
-      (read_at conn ns (wire.pong body) t (a.net.given conn) (intakes conn).reader (news conn).reader (has_open (phase r ns conn) was) e steps (k.hears conn))
+      (read_open conn ns (wire.pong body) (a.net.given conn) (intakes conn).reader (news conn).reader was read_it (k.hears conn))
       (λ free. absurd (free refl))
     where
       was : phase r ns conn ≡ Some Open
@@ -452,33 +438,33 @@ module _ {S : Type 0} (r : run.Server S) (config : ConfigValue) (table : RouteTa
       → ((world r ns).line c).items ++ served (is_open (phase r ns conn)) (only conn item) c ≡ ((world r ns).line c).items ++ served (is_open (phase_at a.hub conn)) (only conn item) c
   served_by ns a conn c item x = ap (λ (z : Bool). ((world r ns).line c).items ++ served z (only conn item) c) (sym (agrees_open (world r ns) ns a x conn))
 
-  pub close_kept : (ns after : List NoteValue) (conn code : ℕ) (reason : List ℕ) (a b : Server) (now : S) (intakes news : ℕ → IntakeView) (t : Step) (x : Proceeds (note.peer_close conn code reason ∷ []) [] a b)
+  pub close_kept : (ns after : List NoteValue) (conn code : ℕ) (reason : List ℕ) (a b : Server) (now : S) (intakes news : ℕ → IntakeView) (x : Proceeds (note.peer_close conn code reason ∷ []) [] a b)
       → Kept r config table ns a now intakes (Some conn) → IsTable (table_of a.hub) → IsTable (table_of b.hub) → has_frames (phase_at a.hub conn) ≡ true
-      → SameButReader conn intakes news → HasStepped (intakes conn).reader t (news conn).reader → events_of t ≡ wire.closed code reason ∷ []
+      → SameButReader conn intakes news → IsRead (intakes conn).reader (wire.closed code reason ∷ []) (news conn).reader
       → Appends (served (is_open (phase_at a.hub conn)) (only conn (close_item code))) a b → b.told ≡ Some after
       → (after ≡ ns ++ note.peer_close conn code reason ∷ x.sending) × Kept r config table after b now news None
-  close_kept ns after conn code reason a b now intakes news t x k before later is same steps e app told =
+  close_kept ns after conn code reason a b now intakes news x k before later is same read_it app told =
       sends_kept conn ns after (note.peer_close conn code reason) (served (is_open (phase_at a.hub conn)) (only conn (close_item code))) a b now intakes news None (Some Ending) x k before later
       (own_note conn (note.peer_close conn code reason) refl refl refl (λ c. refl)) refl refl refl
       (λ c. items_close r (world r ns) conn c code reason ∙ served_by ns a conn c (close_item code) k.agrees) app told
       same (close_by (phase r ns conn) conn code reason was) (λ q. cc)
-      (last_at conn ns (wire.closed code reason) t (a.net.given conn) (intakes conn).reader (news conn).reader was e (last_of t code reason e) steps (k.hears conn))
+      (read_last conn ns (wire.closed code reason) (a.net.given conn) (intakes conn).reader (news conn).reader was refl refl read_it (k.hears conn))
       (λ free. tt {0})
     where
       was : has_frames (phase r ns conn) ≡ true
       was = frames_by (world r ns) ns a k.agrees conn is
 
-  pub failure_kept : (ns after : List NoteValue) (conn code : ℕ) (a b : Server) (now : S) (intakes news : ℕ → IntakeView) (t : Step) (x : Proceeds (note.failed conn code ∷ []) [] a b)
+  pub failure_kept : (ns after : List NoteValue) (conn code : ℕ) (a b : Server) (now : S) (intakes news : ℕ → IntakeView) (x : Proceeds (note.failed conn code ∷ []) [] a b)
       → Kept r config table ns a now intakes (Some conn) → IsTable (table_of a.hub) → IsTable (table_of b.hub) → has_frames (phase_at a.hub conn) ≡ true
-      → SameButReader conn intakes news → HasStepped (intakes conn).reader t (news conn).reader → events_of t ≡ wire.failed code ∷ []
+      → SameButReader conn intakes news → IsRead (intakes conn).reader (wire.failed code ∷ []) (news conn).reader
       → Appends (served (is_open (phase_at a.hub conn)) (only conn (close_item code))) a b → b.told ≡ Some after
       → (after ≡ ns ++ note.failed conn code ∷ x.sending) × Kept r config table after b now news None
-  failure_kept ns after conn code a b now intakes news t x k before later is same steps e app told =
+  failure_kept ns after conn code a b now intakes news x k before later is same read_it app told =
       sends_kept conn ns after (note.failed conn code) (served (is_open (phase_at a.hub conn)) (only conn (close_item code))) a b now intakes news None (Some Ending) x k before later
       (own_note conn (note.failed conn code) refl refl refl (λ c. refl)) refl refl refl
       (λ c. items_failed r (world r ns) conn c code ∙ served_by ns a conn c (close_item code) k.agrees) app told
       same (fail_by (phase r ns conn) conn code was) (λ q. cc)
-      (last_at conn ns (wire.failed code) t (a.net.given conn) (intakes conn).reader (news conn).reader was e (failed_of t code e) steps (k.hears conn))
+      (read_last conn ns (wire.failed code) (a.net.given conn) (intakes conn).reader (news conn).reader was refl refl read_it (k.hears conn))
       (λ free. tt {0})
     where
       was : has_frames (phase r ns conn) ≡ true

@@ -5,11 +5,10 @@ use Rattle.ws_kinds.specs.declared.note.Phase.TheVariants.{Head, Open, Leaving, 
 use Rattle.ws_kinds.specs.ConfigValue.{ConfigValue}
 use Rattle.ws_kinds.specs.NoteValue.{NoteValue}
 use Rattle.route_table.specs.Table.{RouteTable}
-use Rattle.frame_reader.specs.declared.reader.Reader.{Reader}
 use Rattle.run_meaning.specs.Counts.{closes, is_accepted}
 use Rattle.run_meaning.specs.Server as run
 use Rattle.run_meaning.specs.Lines.{is_gone_phase, phase, plain, world}
-use Rattle.run_meaning.specs.Life.{heard, Lived, Carries, Carried}
+use Rattle.run_meaning.specs.Life.{heard, last_frame, Lived, Carries, Carried}
 use Rattle.run_meaning.specs.Kept as meaning
 use Rattle.wire_meaning.specs.Answer.{all_spelled}
 use Rattle.run_meaning.specs.Settled as meant
@@ -20,22 +19,23 @@ use Rattle.hub_lines.specs.Lines.{held_at, held_octets}
 use Rattle.hub_lines.specs.Calls.{Settled, Ties}
 use Rattle.hub_lines.proofs.CallLemmas.{settled_held}
 use Rattle.hub_notes.specs.Fronts.{RingsWait}
-use Rattle.hub_notes.specs.Progress.{unless_gone, due_at}
+use Rattle.run_meaning.specs.Orders.{unless_gone}
+use Rattle.hub_notes.specs.Progress.{due_at}
 use Rattle.hub_notes.proofs.BoolLemmas.{by_cases, clash}
 use Rattle.hub_notes.proofs.TieLemmas.{away_by_phase}
-use Rattle.hub_table.specs.Table.{IsTable, table_of}
-use Rattle.hub_runs.proofs.RestLemmas.{there_by_phase, away_by_gone}
-use Rattle.hub_runs.proofs.AgreeLemmas.{rests_of, agrees_due, agrees_told, agrees_untold}
-use Rattle.hub_runs.proofs.HubLemmas.{agrees_hub_phase}
-use Rattle.hub_runs.proofs.CarryLemmas.{accepted_known, agrees_carried, agrees_phase}
-use Rattle.hub_runs.proofs.CountLemmas.{unaccepted_phase}
-use Rattle.run_heard.proofs.Hearing.{head_waits, frames_end}
-use Rattle.run_heard.proofs.Lives.{lived_of_life, lived_of_front}
+use Rattle.run_laws.proofs.RestLemmas.{there_by_phase, away_by_gone}
+use Rattle.run_laws.proofs.AgreeLemmas.{rests_of, agrees_due, agrees_told, agrees_untold}
+use Rattle.run_laws.proofs.HubLemmas.{agrees_hub_phase}
+use Rattle.run_laws.specs.Readers.{ReaderView}
+use Rattle.run_laws.specs.Hears.{HearsAll}
+use Rattle.run_laws.proofs.CarryLemmas.{agrees_carried, agrees_phase}
+use Rattle.run_laws.proofs.WorldLemmas.{accepted_known, unaccepted_phase}
+use Rattle.run_laws.proofs.HearLemmas.{head_waits, frames_end}
+use Rattle.run_laws.proofs.Lives.{lived_of_all, lived_of_front}
 use Rattle.run_kept.specs.Ends.{AreThere, backlog_at}
 use Rattle.run_kept.specs.Read.{AreRead}
 use Rattle.run_kept.specs.Kept.{IntakeView, HearsAt, RestsAt, Kept}
 use Rattle.run_kept.proofs.PassingLemmas.{none_reads}
-use Rattle.run_kept.proofs.EndLemmas.{ring_there}
 use Rattle.run_kept.proofs.ReadLemmas.{reading_shown}
 
 -- ---- bits
@@ -64,12 +64,15 @@ ending_away Gone false away e = let z : None ≡ Some Ending = e in cc
 module _ {S : Type 0} (r : run.Server S) (f : ConfigValue) (t : RouteTable) (ns : List NoteValue) (s : Server) (now : S) (is : ℕ → IntakeView) (k : Kept r f t ns s now is None) where
   -- ---- the relation of a run
 
-  life_of : (c : ℕ) (p : Option Phase) (octets : List ℕ) (d : Reader) → phase r ns c ≡ p → HearsAt t f.max_message p (heard c ns) octets d → RestsAt t p octets d → p ≢ None → Lived r t f.max_message ns c octets
+  life_of : (c : ℕ) (p : Option Phase) (octets : List ℕ) (d : ReaderView) → phase r ns c ≡ p → HearsAt t f.max_message p (last_frame r ns c) (heard c ns) octets d → RestsAt t p octets d → p ≢ None → Lived r t f.max_message ns c octets
   life_of c None octets d e x y known = absurd (known refl)
-  life_of c (Some Head) octets d e x y known = lived_of_life r t f.max_message ns c octets (head_waits t f.max_message (heard c ns) octets d x y)
-  life_of c (Some Open) octets d e x y known = lived_of_life r t f.max_message ns c octets (frames_end t f.max_message (heard c ns) octets d x y)
-  life_of c (Some Leaving) octets d e x y known = lived_of_life r t f.max_message ns c octets (frames_end t f.max_message (heard c ns) octets d x y)
-  life_of c (Some Ending) octets d e x y known = lived_of_life r t f.max_message ns c octets x
+  life_of c (Some Head) octets d e x y known =
+      lived_of_all r t f.max_message ns c octets (subst (λ (z : Option ℕ). HearsAll t f.max_message z (heard c ns) octets) (sym x.0) (head_waits t f.max_message (heard c ns) octets d x.1 y))
+  life_of c (Some Open) octets d e x y known =
+      lived_of_all r t f.max_message ns c octets (subst (λ (z : Option ℕ). HearsAll t f.max_message z (heard c ns) octets) (sym x.0) (frames_end t f.max_message None (heard c ns) octets d x.1 y))
+  life_of c (Some Leaving) octets d e x y known =
+      lived_of_all r t f.max_message ns c octets (subst (λ (z : Option ℕ). HearsAll t f.max_message z (heard c ns) octets) (sym x.1) (frames_end t f.max_message (Some x.0) (heard c ns) octets d x.2 y))
+  life_of c (Some Ending) octets d e x y known = lived_of_all r t f.max_message ns c octets x
   life_of c (Some Gone) octets d e x y known = lived_of_front r t f.max_message ns c octets x (ap is_gone_phase e)
 
   pub kept_lived : (c : ℕ) → is_accepted c ns ≡ true → Lived r t f.max_message ns c (s.net.given c)
@@ -118,10 +121,6 @@ module _ {S : Type 0} (r : run.Server S) (f : ConfigValue) (t : RouteTable) (ns 
     sound = sound;
   }
 
-  pub kept_right : Settled s.hub → ((c : ℕ) → length (plain r ns c) < 2 ^ 64 - 1) → ((before rest : List NoteValue) (n : NoteValue) → ns ≡ before ++ n ∷ rest → Sound r f before n)
-      → Right r f t ns s.net now (ring_at s.hub)
-  kept_right settled few sound = right_by (ring_at s.hub) (λ c present. refl) settled few sound
-
   backlog_is : IsHeld (backlog_at s.hub)
   backlog_is c present = ap (λ (z : Bool). cond z (ring_at s.hub c) []) present
 
@@ -160,12 +159,6 @@ module _ {S : Type 0} (r : run.Server S) (f : ConfigValue) (t : RouteTable) (ns 
     live = λ c. both_ways (s.net.live c) (is_present s.hub c) (there c) (ties c) ∙ there_is c;
   }
 
-  -- of a connection whose Closed event is due, it left Open as the turn ended
-  pub kept_settled : Settled s.hub → s.net.rested ≡ true → RingsWait s → ((c : ℕ) → ring_at s.hub c ≢ [] → is_present s.hub c ≡ true) → AreRead None s
-      → ((c : ℕ) → phase_at s.hub c ≡ Some Ending → held_octets (held_at s.hub c) ≢ []) → ((c : ℕ) (cause : ℕ × List ℕ) → due_at s.hub c ≡ Some cause → LeftAtEnd r c ns)
-      → Ties s → AreThere s → meant.Settled r ns s.net (record { pending = 0; gathered = []; backlog = ring_at s.hub })
-  kept_settled settled rested waits present asked ending due ties there = settled_by (ring_at s.hub) (λ c here. refl) present settled rested waits asked ending due ties there
-
   backlog_there : (c : ℕ) → backlog_at s.hub c ≢ [] → is_present s.hub c ≡ true
   backlog_there c holds = by_cases (is_present s.hub c) (λ t. t) (λ away. absurd (holds (ap (λ (z : Bool). cond z (ring_at s.hub c) []) away)))
 
@@ -174,13 +167,3 @@ module _ {S : Type 0} (r : run.Server S) (f : ConfigValue) (t : RouteTable) (ns 
       → ((c : ℕ) → phase_at s.hub c ≡ Some Ending → held_octets (held_at s.hub c) ≢ []) → ((c : ℕ) (cause : ℕ × List ℕ) → due_at s.hub c ≡ Some cause → LeftAtEnd r c ns)
       → Ties s → AreThere s → meant.Settled r ns s.net (record { pending = 0; gathered = []; backlog = backlog_at s.hub })
   kept_settled_there settled rested waits asked ending due ties there = settled_by (backlog_at s.hub) backlog_is backlog_there settled rested waits asked ending due ties there
-
-  none_due : (c : ℕ) (cause : ℕ × List ℕ) → due_at s.hub c ≡ None → due_at s.hub c ≡ Some cause → LeftAtEnd r c ns
-  none_due c cause none e = absurd (let z : None ≡ Some cause = sym none ∙ e in cc)
-
-  -- where none is due
-  pub kept_settled_whole : Settled s.hub → s.net.rested ≡ true → RingsWait s → IsTable (table_of s.hub) → AreRead None s
-      → ((c : ℕ) → phase_at s.hub c ≡ Some Ending → held_octets (held_at s.hub c) ≢ []) → ((c : ℕ) → due_at s.hub c ≡ None)
-      → Ties s → AreThere s → meant.Settled r ns s.net (record { pending = 0; gathered = []; backlog = ring_at s.hub })
-  kept_settled_whole settled rested waits table asked ending none ties there =
-      kept_settled settled rested waits (λ c holds. ring_there s.hub c table (none c) holds) asked ending (λ c cause. none_due c cause (none c)) ties there

@@ -1,5 +1,5 @@
 -- What holds after a turn, by what held before it.
-use Rattle.std.proofs.Common.{◌≡◌, ◌≢◌, ◌<◌, ◌^◌, ◌-◌, ℕ, List, [], ◌∷◌, ◌++◌, Some, None, true, false, length, refl, sym, ◌∙◌, subst}
+use Rattle.std.proofs.Common.{◌≡◌, ◌<◌, ◌^◌, ◌-◌, ℕ, List, [], ◌∷◌, ◌++◌, Some, None, true, false, length, refl, sym, ◌∙◌, subst}
 use Rattle.std.specs.List.{list_any}
 use Rattle.ws_kinds.specs.ConfigValue.{ConfigValue}
 use Rattle.ws_kinds.specs.NoteValue as note
@@ -12,23 +12,23 @@ use Rattle.route_table.specs.Table.{RouteTable}
 use Rattle.run_meaning.specs.Server as run
 use Rattle.run_meaning.specs.Settled as meant
 use Rattle.run_meaning.specs.Settled.{LeftAtEnd}
-use Rattle.hub_lines.specs.State.{Server, server, is_present, ring_at}
+use Rattle.hub_lines.specs.State.{Server, server}
 use Rattle.hub_lines.specs.Calls.{Settled, Ties, nothing}
-use Rattle.hub_notes.specs.Noted.{is_acceptance}
+use Rattle.run_meaning.specs.Notes.{is_acceptance}
 use Rattle.hub_notes.specs.Fronts.{RingsWait}
 use Rattle.hub_notes.specs.Progress.{due_at}
 use Rattle.hub_notes.specs.Calls.{Appends}
 use Rattle.hub_notes.proofs.BoolLemmas.{clash}
 use Rattle.hub_notes.proofs.TieLemmas.{outgoing_unaccepted, unaccepted_then}
-use Rattle.hub_table.specs.Table.{IsTable, table_of}
-use Rattle.hub_core.specs.Turns.{EndsTurn, finishes}
+use Rattle.hub_notes.specs.Table.{IsTable, table_of}
+use Rattle.hub_notes.specs.Turns.{EndsTurn, finishes}
 use Rattle.run_kept.specs.Kept.{IntakeView, Kept}
 use Rattle.run_kept.specs.Ends.{AreThere, backlog_at}
 use Rattle.run_kept.specs.Read.{AreRead}
 use Rattle.run_kept.proofs.TurningLemmas.{kept_turned}
 use Rattle.run_kept.proofs.EndLemmas.{left_at_end, there_same, there_after}
 use Rattle.run_kept.proofs.ReadLemmas.{read_same, read_call}
-use Rattle.run_kept.proofs.RightLemmas.{kept_settled, kept_settled_there}
+use Rattle.run_kept.proofs.RightLemmas.{kept_settled_there}
 
 -- the end of a turn changes no link
 pub rest_links : (answer : NetEvent) (a b : NetState) → is_rest answer ≡ true → Tells answer a b → SameLinks a b
@@ -72,9 +72,6 @@ module _ (answer : NetEvent) (a b : Server) (net : NetState) (rest : is_rest ans
 
     left : (c : ℕ) (cause : ℕ × List ℕ) → due_at b.hub c ≡ Some cause → LeftAtEnd r c after
     left c cause due = subst (λ (z : List NoteValue). LeftAtEnd r c z) (sym kept.0) (left_at_end r ns a b net ends k.agrees none c cause due)
-
-    pub turn_settled : ((c : ℕ) → ring_at b.hub c ≢ [] → is_present b.hub c ≡ true) → meant.Settled r after b.net (record { pending = 0; gathered = []; backlog = ring_at b.hub })
-    turn_settled holds = kept_settled r f t after b now is kept.1 settled (turn_rests k.agrees.tells) (turn_waits app waits) holds (turn_read read) ends.ending left ties (turn_there there)
 
     pub turn_settled_there : meant.Settled r after b.net (record { pending = 0; gathered = []; backlog = backlog_at b.hub })
     turn_settled_there = kept_settled_there r f t after b now is kept.1 settled (turn_rests k.agrees.tells) (turn_waits app waits) (turn_read read) ends.ending left ties (turn_there there)

@@ -1,5 +1,5 @@
 -- What a server keeps while it starts, while connections are turned away, and while time goes by and turns end.
-use Rattle.std.proofs.Common.{◌≡◌, ◌<◌, ◌^◌, ◌-◌, ℕ, List, [], ◌∷◌, ◌++◌, Option, Some, None, Bool, true, false, cond, ◌&&◌, length, refl, sym, ap, ◌∙◌, subst}
+use Rattle.std.proofs.Common.{◌≡◌, ◌<◌, ◌^◌, ◌-◌, ℕ, List, [], ◌∷◌, ◌++◌, Some, None, Bool, true, false, cond, ◌&&◌, length, refl, sym, ap, ◌∙◌, subst}
 use Rattle.std.specs.List.{list_all}
 use Rattle.ws_kinds.specs.declared.conn.Conn.{Conn}
 use Rattle.ws_kinds.specs.ConfigValue.{ConfigValue}
@@ -13,7 +13,7 @@ use Rattle.route_table.specs.Table.{RouteTable}
 use Rattle.run_meaning.specs.Counts.{gather, has_number, accepted_by, is_accepted}
 use Rattle.run_meaning.specs.Server as run
 use Rattle.run_meaning.specs.Lines.{world, phase}
-use Rattle.run_meaning.specs.Life.{heard}
+use Rattle.run_meaning.specs.Life.{heard, last_frame}
 use Rattle.run_meaning.specs.Network.{Follows, Mark, marks_by, marks_of}
 use Rattle.run_meaning.specs.Network.Mark.{arrival, tick, turn}
 use Rattle.run_meaning.proofs.Parts.{list_all-append}
@@ -21,39 +21,41 @@ use Rattle.run_meaning.proofs.Ordering.{ordered_none}
 use Rattle.hub_lines.specs.State.{HubState, Server, Entry, server, has_entry}
 use Rattle.hub_lines.specs.Told.{taken_of}
 use Rattle.hub_lines.specs.Calls.{nothing}
-use Rattle.hub_notes.specs.Noted.{AreNoted, is_outgoing}
+use Rattle.ws_kinds.specs.Watch.{AreNoted}
+use Rattle.run_meaning.specs.Performs.{is_outgoing}
 use Rattle.hub_notes.specs.Calls.{Appends}
 use Rattle.hub_notes.proofs.BoolLemmas.{clash}
-use Rattle.hub_table.specs.Table.{IsTable, table_of}
-use Rattle.hub_core.specs.Answers.{Arrives, Makes}
-use Rattle.hub_core.specs.declared.hub.Arrival.TheVariants.{Busy, Memory}
-use Rattle.hub_core.specs.Turns.{EndsTurn, finishes}
-use Rattle.hub_runs.specs.Agrees.{Agrees}
-use Rattle.hub_runs.specs.Tests.{is_quiet}
-use Rattle.hub_runs.proofs.AgreeLemmas.{agrees_net, agrees_aside, told_is}
-use Rattle.hub_runs.proofs.HubLemmas.{agrees_quiet, agrees_last}
-use Rattle.hub_runs.proofs.CountLemmas.{agrees_first}
-use Rattle.run_follows.specs.Steps.{FollowsBut}
-use Rattle.run_follows.specs.Unread.{is_unread}
-use Rattle.run_follows.proofs.Adding.{follows_none, none_but}
-use Rattle.run_follows.proofs.Calling.{call_marked}
-use Rattle.run_follows.proofs.Telling.{next_but, next_unmarked, shut_follows, aside_but}
-use Rattle.run_follows.proofs.Arriving.{busy_follows, no_room_follows}
-use Rattle.run_follows.proofs.Proceeding.{proceeds_follows}
+use Rattle.hub_notes.specs.Table.{IsTable, table_of}
+use Rattle.hub_notes.specs.Answers.{Arrives, Makes}
+use Rattle.hub_notes.specs.declared.arrival.Arrival.TheVariants.{Busy, Memory}
+use Rattle.hub_notes.specs.Turns.{EndsTurn, finishes}
+use Rattle.run_laws.specs.Agrees.{Agrees}
+use Rattle.run_laws.specs.Tests.{is_quiet}
+use Rattle.run_laws.proofs.AgreeLemmas.{agrees_net, agrees_aside, told_is}
+use Rattle.run_laws.proofs.HubLemmas.{agrees_quiet, agrees_last}
+use Rattle.run_laws.proofs.CountLemmas.{agrees_first}
+use Rattle.run_laws.specs.Steps.{FollowsBut}
+use Rattle.run_laws.specs.Unread.{is_unread}
+use Rattle.run_laws.proofs.Adding.{follows_none, none_but, gathers_none}
+use Rattle.run_laws.proofs.Calling.{call_marked}
+use Rattle.run_laws.proofs.Telling.{next_but, next_unmarked, shut_follows, aside_but}
+use Rattle.run_laws.proofs.Arriving.{busy_follows, no_room_follows}
+use Rattle.run_meaning.proofs.NoteLemmas.{all_follow}
+use Rattle.run_laws.proofs.Proceeding.{proceeds_follows}
 use Rattle.run_kept.specs.Kept.{IntakeView, HearsAt, RestsAt, Kept}
 use Rattle.run_kept.specs.Passing.{is_passing}
-use Rattle.run_kept.proofs.OthersLemmas.{entry_before}
-use Rattle.run_kept.proofs.PassingLemmas.{all_of, gathers_none, passing_accepts, kept_passing}
+use Rattle.run_kept.proofs.EntryLemmas.{entry_before}
+use Rattle.run_kept.proofs.PassingLemmas.{same_told, passing_accepts, kept_passing}
 
 -- ---- at first
 
 no_entries : (es : List Entry) (c : ℕ) → es ≡ [] → has_entry es c ≡ false
 no_entries es c e = ap (λ (z : List Entry). has_entry z c) e
 
-pub kept_first : {S : Type 0} (r : run.Server S) (f : ConfigValue) (t : RouteTable) (s : Server) (now : S) (is : ℕ → IntakeView) → s.hub.entries ≡ [] → s.hub.partings ≡ [] → s.net.tells ≡ true → s.told ≡ Some []
+pub kept_first : {S : Type 0} (r : run.Server S) (f : ConfigValue) (t : RouteTable) (s : Server) (now : S) (is : ℕ → IntakeView) → s.hub.entries ≡ [] → s.hub.pairs ≡ [] → s.hub.partings ≡ [] → s.net.tells ≡ true → s.told ≡ Some []
     → s.net.passed ≡ [] → now ≡ r.start → s.hub.config ≡ f → Kept r f t [] s now is None
-kept_first r f t s now is entries partings tells told passed start config = record {
-  agrees = agrees_first r s tells told entries partings;
+kept_first r f t s now is entries pairs partings tells told passed start config = record {
+  agrees = agrees_first r s tells told entries pairs partings;
   follows = follows_none s.net passed;
   ordered = ordered_none r f;
   state = start;
@@ -63,12 +65,6 @@ kept_first r f t s now is entries partings tells told passed start config = reco
   rests = λ c free. tt {0};
   routed = λ c there. clash (has_entry s.hub.entries c) (no_entries s.hub.entries c entries) there;
 }
-
--- ---- what the watch told is known
-
-pub kept_told : {S : Type 0} (r : run.Server S) (f : ConfigValue) (t : RouteTable) (ns after : List NoteValue) (s : Server) (now : S) (is : ℕ → IntakeView) (reading : Option ℕ) → Kept r f t ns s now is reading
-    → s.told ≡ Some after → after ≡ ns
-kept_told r f t ns after s now is reading k told = let z : Some after ≡ Some ns = sym told ∙ k.agrees.told in cc
 
 -- ---- the net alone
 
@@ -89,7 +85,7 @@ module _ {S : Type 0} (r : run.Server S) (f : ConfigValue) (t : RouteTable) (ns 
     state = k.state;
     unlike = k.unlike;
     configured = k.configured;
-    hears = λ c. subst (λ (z : List ℕ). HearsAt t f.max_message (phase r ns c) (heard c ns) z (is c).reader) (sym (same.given c)) (k.hears c);
+    hears = λ c. subst (λ (z : List ℕ). HearsAt t f.max_message (phase r ns c) (last_frame r ns c) (heard c ns) z (is c).reader) (sym (same.given c)) (k.hears c);
     rests = λ c free. subst (λ (z : List ℕ). RestsAt t (phase r ns c) z (is c).reader) (sym (same.given c)) (k.rests c free);
     routed = k.routed;
   }
@@ -174,14 +170,14 @@ module _ {S : Type 0} (r : run.Server S) (f : ConfigValue) (t : RouteTable) (ns 
       let last = finishes ends.finished ++ note.turn ∷ [] in
       let made = ends.proceeds.sending ++ last in
       let passes : list_all is_passing made ≡ true =
-      list_all-append is_passing ends.proceeds.sending last ∙ ap (λ (z : Bool). z && list_all is_passing last) (all_of is_outgoing is_passing outgoing_passes ends.proceeds.sending ends.proceeds.outgoing) ∙ last_passes ends.finished in
+      list_all-append is_passing ends.proceeds.sending last ∙ ap (λ (z : Bool). z && list_all is_passing last) (all_follow is_outgoing is_passing outgoing_passes ends.proceeds.sending ends.proceeds.outgoing) ∙ last_passes ends.finished in
       let kept : Kept r f t (ns ++ made) b now is None =
       kept_passing r f t ns made a b now is k passes
       (agrees_last r (world r ns) ns after last (server a.hub net a.told) b ends.proceeds (agrees_now net tells same) app told (last_quiet ends.finished))
       (none_but (ns ++ made) b.net (proceeds_follows ns [] last (turn ∷ []) (turn ∷ []) [] (server a.hub net a.told) b tells (last_unread ends.finished) (last_marks ends.finished) refl ends.proceeds follows))
       app.lines.config (λ c. (ends.proceeds.advances.net.told tells).given c ∙ same.given c)
       (λ c there. entry_before c made (server a.hub net a.told) b ends.proceeds.advances (unaccepted made passes c) was table there) in
-      let is_after : after ≡ ns ++ made = kept_told r f t (ns ++ made) after b now is None kept told in
+      let is_after : after ≡ ns ++ made = same_told after (ns ++ made) b.told told kept.agrees.told in
       (is_after, subst (λ (z : List NoteValue). Kept r f t z b now is None) (sym is_after) kept)
     where
       outgoing_passes : (n : NoteValue) → is_outgoing n ≡ true → is_passing n ≡ true

@@ -1,31 +1,34 @@
 -- Of a connection that was not accepted, and that no note names but by its arrival, nothing is known.
-use Rattle.std.proofs.Common.{◌≡◌, ◌<◌, ◌+◌, ℕ, suc, zero, List, [], ◌∷◌, ◌++◌, Option, Some, None, Bool, true, false, cond, not, nat_eq, ◌||◌, length, take, slice_get, refl, sym, ap, ◌∙◌, subst, append-nil, append_assoc, arith}
+use Rattle.std.proofs.Common.{◌≡◌, ◌<◌, ◌+◌, ℕ, suc, zero, List, [], ◌∷◌, ◌++◌, Option, Some, None, Bool, true, false, cond, not, nat_eq, ◌&&◌, ◌||◌, length, take, slice_get, refl, sym, ap, ◌∙◌, subst, append-nil, append_assoc, arith}
 use Rattle.std.proofs.lemmas.Bool.Decides.{nat_tests}
 use Rattle.std.specs.List.{list_all}
+use Rattle.std.proofs.Math.Bool.{and-false}
 use Rattle.ws_kinds.specs.declared.note.Phase.{Phase}
 use Rattle.ws_kinds.specs.declared.note.Why.{Why}
-use Rattle.ws_kinds.specs.declared.note.Why.TheVariants.{Absent}
+use Rattle.ws_kinds.specs.declared.note.Why.TheVariants.{Absent, Memory}
 use Rattle.ws_kinds.specs.ConfigValue.{ConfigValue}
 use Rattle.ws_kinds.specs.NoteValue as note
 use Rattle.ws_kinds.specs.NoteValue.{NoteValue}
 use Rattle.ws_kinds.specs.EventValue as event
 use Rattle.ws_kinds.specs.EventValue.{EventValue}
-use Rattle.ws_kinds.specs.OrderValue.{OrderValue, send}
+use Rattle.ws_kinds.specs.OrderValue.{OrderValue, send, subscribe, unsubscribe, publish, close}
 use Rattle.run_meaning.specs.Notes.{is_of, is_event, is_gone, window}
 use Rattle.run_meaning.specs.Counts.{has_number, accepted_by, only_if, dropped_by, drops, is_accepted, is_gone_in}
 use Rattle.run_meaning.specs.Server as run
-use Rattle.run_meaning.specs.Lines.{Line, World, unknown, line_after, after_own, noted, step, answered, first_world, world, obey, obeyed, put, data_frame, is_refused, orders_of, event_of}
+use Rattle.run_meaning.specs.Lines.{Line, World, unknown, line_after, after_own, noted, step, answered, first_world, world, obey, obeyed, put, data_frame, has_topic, with_topic, without_topic, closed_by_server, is_refused, orders_of, event_of}
 use Rattle.run_meaning.specs.Lines as lines
-use Rattle.run_meaning.specs.Orders.{Ordered, Justified, event_at, at_order, asked, named, why, why_send}
-use Rattle.run_meaning.specs.Orders.Justified.{by_reason, by_gone}
+use Rattle.run_meaning.specs.Orders.{Ordered, Justified, event_at, at_order, asked, named, standings, unless_gone, why_at, why_send}
+use Rattle.run_meaning.specs.Orders.Justified.{by_reason, by_memory, by_gone}
 use Rattle.run_meaning.specs.Right.{is_arrival}
 use Rattle.run_meaning.proofs.Worlds.{refused_more, step_plain, step_event}
 use Rattle.run_meaning.proofs.Underway.{perform-line}
 use Rattle.run_meaning.proofs.Serving.{named-none}
 use Rattle.hub_notes.proofs.BoolLemmas.{by_cases, clash, and_left, and_right}
-use Rattle.hub_runs.proofs.ProgressLemmas.{own_line, other_line, rest_unaccepted}
-use Rattle.run_follows.specs.Unread.{is_at_most_arrival}
-use Rattle.run_kept.proofs.PassingLemmas.{gathers_none}
+use Rattle.run_meaning.proofs.LineLemmas.{own_line, other_line}
+use Rattle.run_laws.proofs.ProgressLemmas.{rest_unaccepted}
+use Rattle.run_laws.proofs.Adding.{gathers_none}
+use Rattle.run_laws.proofs.WorldLemmas.{none_obeys, obeyed_keeps}
+use Rattle.run_laws.specs.Unread.{is_at_most_arrival}
 
 -- ---- bits
 
@@ -37,18 +40,6 @@ arrives_where_own : (own arrives : Bool) → (not own || arrives) ≡ true → o
 arrives_where_own true arrives e h = e
 arrives_where_own false arrives e h = clash false refl h
 
-phase_of_obeyed : (u : ℕ → Bool) (from c i : ℕ) (os : List OrderValue) (l : Line) → (obeyed u from c i os l).phase ≡ l.phase
-phase_of_obeyed u from c i [] l = refl
-phase_of_obeyed u from c i (o ∷ os) l = phase_of_obeyed u from c (i + 1) os (cond (u i) l (obey from c o l)) ∙ one (u i) o
-  where
-    sent : (b : Bool) (l m : Line) → m.phase ≡ l.phase → (cond b m l).phase ≡ l.phase
-    sent true l m e = e
-    sent false l m e = refl
-
-    one : (b : Bool) (o : OrderValue) → (cond b l (obey from c o l)).phase ≡ l.phase
-    one true o = refl
-    one false (send to kind body) = sent (nat_eq to c) l (put (data_frame kind body ∷ []) l) refl
-
 below_length : {A : Type 0} (i : ℕ) (xs : List A) (x : A) → slice_get xs i ≡ Some x → i < length xs
 below_length i [] x e = absurd (let z : None ≡ Some x = e in cc)
 below_length zero (y ∷ xs) x e = omega arith
@@ -57,12 +48,12 @@ below_length (suc i) (y ∷ xs) x e = let h = below_length i xs x e in omega ari
 zero_plus : (j : ℕ) → 0 + j ≡ j
 zero_plus j = omega arith
 
--- orders that are refused where they ask for the connection
-away_orders : (u : ℕ → Bool) (from c i : ℕ) (os : List OrderValue) (l : Line) → ((j : ℕ) (o : OrderValue) → slice_get os j ≡ Some o → asked from o ≡ Some c → u (i + j) ≡ true) → obeyed u from c i os l ≡ l
-away_orders u from c i [] l refused = refl
-away_orders u from c i (o ∷ os) l refused =
+-- orders of another connection leave one that is unknown, where those that ask for it are refused
+away_orders : (u : ℕ → Bool) (from c i : ℕ) (os : List OrderValue) → nat_eq from c ≡ false → ((j : ℕ) (o : OrderValue) → slice_get os j ≡ Some o → asked from o ≡ Some c → u (i + j) ≡ true) → obeyed u from c i os unknown ≡ unknown
+away_orders u from c i [] apart refused = refl
+away_orders u from c i (o ∷ os) apart refused =
     ap (λ (z : Line). obeyed u from c (i + 1) os z) (one o (λ e. sym (ap u (plus_zero i)) ∙ refused zero o refl e))
-    ∙ away_orders u from c (i + 1) os l (λ j p at e. ap u (plus_one i j) ∙ refused (suc j) p at e)
+    ∙ away_orders u from c (i + 1) os apart (λ j p at e. ap u (plus_one i j) ∙ refused (suc j) p at e)
   where
     plus_zero : (i : ℕ) → i + 0 ≡ i
     plus_zero i = omega arith
@@ -70,16 +61,20 @@ away_orders u from c i (o ∷ os) l refused =
     plus_one : (i j : ℕ) → i + 1 + j ≡ i + suc j
     plus_one i j = omega arith
 
-    unless : (b own : Bool) (l m : Line) → (own ≡ true → b ≡ true) → cond b l (cond own m l) ≡ l
-    unless true own l m h = refl
-    unless false true l m h = clash false refl (h refl)
-    unless false false l m h = refl
+    unless : (b own : Bool) (m : Line) → (own ≡ true → b ≡ true) → cond b unknown (cond own m unknown) ≡ unknown
+    unless true own m h = refl
+    unless false true m h = clash false refl (h refl)
+    unless false false m h = refl
 
     own_is : (to c : ℕ) → nat_eq to c ≡ true → Some to ≡ Some c
     own_is to c e = grind (arith, nat_tests)
 
-    one : (o : OrderValue) → (asked from o ≡ Some c → u i ≡ true) → cond (u i) l (obey from c o l) ≡ l
-    one (send to kind body) h = unless (u i) (nat_eq to c) l (put (data_frame kind body ∷ []) l) (λ e. h (own_is to c e))
+    one : (o : OrderValue) → (asked from o ≡ Some c → u i ≡ true) → cond (u i) unknown (obey from c o unknown) ≡ unknown
+    one (send to kind body) h = unless (u i) (nat_eq to c) (put (data_frame kind body ∷ []) unknown) (λ e. h (own_is to c e))
+    one (subscribe topic) h = unless (u i) (nat_eq from c) (record unknown { topics = with_topic topic [] }) (λ e. clash (nat_eq from c) apart e)
+    one (unsubscribe topic) h = unless (u i) (nat_eq from c) (record unknown { topics = without_topic topic [] }) (λ e. clash (nat_eq from c) apart e)
+    one (publish topic kind body) h = unless (u i) (not (nat_eq from c) && has_topic topic []) (put (data_frame kind body ∷ []) unknown) (λ e. clash (not (nat_eq from c) && has_topic topic []) (and-false (not (nat_eq from c))) e)
+    one (close code reason) h = unless (u i) (nat_eq from c) (closed_by_server code reason unknown) (λ e. clash (nat_eq from c) apart e)
 
 -- a note that says of the connection at most that it came
 not_gone : (c : ℕ) (n : NoteValue) → is_at_most_arrival c n ≡ true → is_gone c n ≡ false
@@ -106,12 +101,13 @@ window_not_gone c (n ∷ ns) e =
 window_event : (n : NoteValue) (ns : List NoteValue) (d i : ℕ) → is_event n ≡ true → is_refused (window (n ∷ ns)) d i ≡ false
 window_event n ns d i e = ap (λ (z : Bool). is_refused (cond z [] (n ∷ window ns)) d i) e
 
-event_is : {S : Type 0} (n : NoteValue) (w : World S) → is_event n ≡ true → (e : EventValue) × (event_at n w ≡ Some e)
-event_is (note.opened c route param) w e = (event_of c event.opened w, refl)
-event_is (note.message c kind body) w e = (event_of c (event.message kind body) w, refl)
-event_is (note.told c dropped drained) w e = (event_of c (event.told dropped drained) w, refl)
-event_is (note.closed c code reason) w e = (event_of c (event.closed code reason) w, refl)
-event_is _ w e = clash false refl e
+-- the event of a note that names the connection at most by its arrival is that of another one
+event_is : {S : Type 0} (c : ℕ) (n : NoteValue) (w : World S) → is_event n ≡ true → is_at_most_arrival c n ≡ true → (e : EventValue) × (event_at n w ≡ Some e) × (nat_eq e.conn c ≡ false)
+event_is c (note.opened d route param) w e most = (event_of d event.opened w, refl, not_own (nat_eq d c) most)
+event_is c (note.message d kind body) w e most = (event_of d (event.message kind body) w, refl, not_own (nat_eq d c) most)
+event_is c (note.told d dropped drained) w e most = (event_of d (event.told dropped drained) w, refl, not_own (nat_eq d c) most)
+event_is c (note.closed d code reason) w e most = (event_of d (event.closed code reason) w, refl, not_own (nat_eq d c) most)
+event_is c _ w e most = clash false refl e
 
 module _ {S : Type 0} (r : run.Server S) (f : ConfigValue) (c : ℕ) where
   -- ---- one note
@@ -152,21 +148,31 @@ module _ {S : Type 0} (r : run.Server S) (f : ConfigValue) (c : ℕ) where
 
   -- ---- an event's orders
 
-  absent : (o : OrderValue) (e : EventValue) (w : World S) (number : ℕ) (ns : List NoteValue) → asked e.conn o ≡ Some c → (w.line c).phase ≡ None → why f e.conn (at_order r e number w ns) o ≡ Some Absent
-  absent (send to kind body) e w number ns ask none =
+  own_apart : (d : ℕ) → nat_eq d c ≡ false → Some d ≡ Some c → ⊥
+  own_apart d apart e = let z : d ≡ c = cc in absurd (grind (arith, nat_tests))
+
+  absent : (o : OrderValue) (e : EventValue) (w : World S) (number : ℕ) (ns : List NoteValue) → nat_eq e.conn c ≡ false → asked e.conn o ≡ Some c → (w.line c).phase ≡ None
+      → why_at f r.admits e.conn (standings (at_order r e number w ns)) o ≡ Some Absent
+  absent (send to kind body) e w number ns apart ask none =
       let is_c : to ≡ c = let z : Some to ≡ Some c = ask in cc in
       let v : World S = record w { state = r.after w.state e } in
-      ap (λ (z : ℕ). why_send f ((at_order r e number w ns).line z).phase kind body) is_c
-      ∙ ap (λ (z : Line). why_send f z.phase kind body) (perform-line (is_refused ns e.conn) e.conn c 0 (take number (orders_of r e w)) v)
-      ∙ ap (λ (z : Option Phase). why_send f z kind body) (phase_of_obeyed (is_refused ns e.conn) e.conn c 0 (take number (orders_of r e w)) (w.line c) ∙ none)
+      let still : ((at_order r e number w ns).line c).phase ≡ None =
+      ap (λ (z : Line). z.phase) (perform-line (is_refused ns e.conn) e.conn c 0 (take number (orders_of r e w)) v)
+      ∙ obeyed_keeps r c (λ (z : Line). z.phase ≡ None) (λ from o l. none_obeys from c o l) (is_refused ns e.conn) e.conn 0 (take number (orders_of r e w)) (w.line c) none in
+      ap (λ (z : ℕ). why_send f (unless_gone ((at_order r e number w ns).line z).phase) kind body) is_c ∙ ap (λ (z : Option Phase). why_send f (unless_gone z) kind body) still
+  absent (subscribe topic) e w number ns apart ask none = absurd (own_apart e.conn apart ask)
+  absent (unsubscribe topic) e w number ns apart ask none = absurd (own_apart e.conn apart ask)
+  absent (publish topic kind body) e w number ns apart ask none = absurd (let z : None ≡ Some c = ask in cc)
+  absent (close code reason) e w number ns apart ask none = absurd (own_apart e.conn apart ask)
 
   refused_if : (d number : ℕ) (ns : List NoteValue) (y : Why) → named d number ns ≡ Some y → is_refused ns d number ≡ true
   refused_if d number ns y e = by_cases (is_refused ns d number) (λ t. t) (λ free. absurd (let z : None ≡ Some y = sym (named-none d number ns free) ∙ e in cc))
 
-  away_refused : (e : EventValue) (w : World S) (number : ℕ) (o : OrderValue) (ns : List NoteValue) → (w.line c).phase ≡ None → is_gone_in c ns ≡ false → asked e.conn o ≡ Some c
-      → Justified f e.conn number o (at_order r e number w ns) ns → is_refused ns e.conn number ≡ true
-  away_refused e w number o ns none stays ask (by_reason q) = refused_if e.conn number ns Absent (q ∙ absent o e w number ns ask none)
-  away_refused e w number o ns none stays ask (by_gone other q gone may) =
+  away_refused : (e : EventValue) (w : World S) (number : ℕ) (o : OrderValue) (ns : List NoteValue) → nat_eq e.conn c ≡ false → (w.line c).phase ≡ None → is_gone_in c ns ≡ false → asked e.conn o ≡ Some c
+      → Justified r f e.conn number o (at_order r e number w ns) ns → is_refused ns e.conn number ≡ true
+  away_refused e w number o ns apart none stays ask (by_reason q) = refused_if e.conn number ns Absent (q ∙ absent o e w number ns apart ask none)
+  away_refused e w number o ns apart none stays ask (by_memory q why needs) = refused_if e.conn number ns Memory q
+  away_refused e w number o ns apart none stays ask (by_gone other q gone may) =
       let same : other ≡ c = let z : Some other ≡ Some c = sym q ∙ ask in cc in
       clash (is_gone_in c ns) stays (ap (λ (z : ℕ). is_gone_in z ns) (sym same) ∙ gone)
 
@@ -183,17 +189,17 @@ module _ {S : Type 0} (r : run.Server S) (f : ConfigValue) (c : ℕ) where
       let u = is_refused (window rest) in
       let v = noted r n w in
       let is_world : w ≡ world r before = front_event (first_world r) before (n ∷ rest) (λ d i. window_event n rest d i gives) in
-      let it = event_is n v gives in
+      let it = event_is c n v gives most in
       let line : v.line c ≡ unknown = line_arrival n (w.line c) most away e in
       let justified = ordered.justified before rest n refl it.0 (subst (λ (z : World S). event_at n (noted r n z) ≡ Some it.0) is_world it.1) in
       ap (λ (z : World S). z.line c) (step_event r u n w it.0 it.1)
       ∙ perform-line (u it.0.conn) it.0.conn c 0 (orders_of r it.0 v) (record v { state = r.after v.state it.0 })
-      ∙ away_orders (u it.0.conn) it.0.conn c 0 (orders_of r it.0 v) (v.line c) (λ j o get ask.
+      ∙ ap (λ (z : Line). obeyed (u it.0.conn) it.0.conn c 0 (orders_of r it.0 v) z) line
+      ∙ away_orders (u it.0.conn) it.0.conn c 0 (orders_of r it.0 v) it.2 (λ j o get ask.
       let get_there : slice_get (orders_of r it.0 (noted r n (world r before))) j ≡ Some o = subst (λ (z : World S). slice_get (orders_of r it.0 (noted r n z)) j ≡ Some o) is_world get in
-      ap (u it.0.conn) (zero_plus j) ∙ away_refused it.0 (noted r n (world r before)) j o (window rest)
+      ap (u it.0.conn) (zero_plus j) ∙ away_refused it.0 (noted r n (world r before)) j o (window rest) it.2
       (subst (λ (z : World S). ((noted r n z).line c).phase ≡ None) is_world (ap (λ (z : Line). z.phase) line)) (window_not_gone c rest later) ask
-      (justified j (below_length j (orders_of r it.0 (noted r n (world r before))) o get_there) o get_there))
-      ∙ line)
+      (justified j (below_length j (orders_of r it.0 (noted r n (world r before))) o get_there) o get_there)))
       (λ plain. ap (λ (z : World S). z.line c) (step_plain r (is_refused (window rest)) n (at before (n ∷ rest)) plain) ∙ line_arrival n ((at before (n ∷ rest)).line c) most away e)
 
   all_unknown : (before rest : List NoteValue) → Ordered r f (before ++ rest) → list_all (is_at_most_arrival c) rest ≡ true → is_accepted c rest ≡ false → (at before rest).line c ≡ unknown → (at (before ++ rest) []).line c ≡ unknown

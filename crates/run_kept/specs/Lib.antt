@@ -1,6 +1,9 @@
 pub mod Kept
-pub mod Readers
 pub mod Giving
 pub mod Passing
 pub mod Ends
 pub mod Read
+pub mod Arrivals
+pub mod Known
+pub mod Sounds
+pub mod Tests

@@ -14,3 +14,12 @@ is_passing (note.took conn offered took) = true
 is_passing (note.dropped conn index held) = true
 is_passing (note.gone conn left) = true
 is_passing _ = false
+
+-- the note is such a one, or says that a connection was sent a ping, that the handler was told something but what was heard, or
+-- that an order is not served
+abbrev pub is_idle : NoteValue → Bool
+is_idle (note.pinged conn) = true
+is_idle (note.told conn dropped drained) = true
+is_idle (note.closed conn code reason) = true
+is_idle (note.unserved conn order why) = true
+is_idle this = is_passing this

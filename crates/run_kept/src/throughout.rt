@@ -19,7 +19,8 @@ use ws_kinds::Handler;
 /// that were read until then, where it was so before this turn. The net's answers went on by some that end no turn and then by
 /// the one that ended this, and the notes end with it.
 pub fn lived_through_turn<H: Handler>()
-    ensures { (meaning : Meaning H.State) (config : ConfigValue) (table : RouteTable) (notes later front : List NoteValue) (old new : NetState) (between : List NetEvent) (answer : NetEvent) (now : H.State) (held : ℕ → List ℕ) →
+    ensures { (meaning : Meaning H.State) (config : ConfigValue) (table : RouteTable) (notes later front : List NoteValue) (old new : NetState) (between : List NetEvent) (answer : NetEvent)
+        (now : H.State) (held : ℕ → List ℕ) →
         Follows notes old → Right meaning config table (notes ++ later) new now held → ((conn : ℕ) → (behind : List ℕ) × (new.given conn ≡ old.given conn ++ behind)) →
         list_any is_rest between ≡ false → is_rest answer ≡ true → new.passed ≡ old.passed ++ (between ++ answer ∷ []) → notes ++ later ≡ front ++ turn ∷ [] →
         LivedThroughout meaning table config.max_message notes old.given → LivedThroughout meaning table config.max_message (notes ++ later) new.given }

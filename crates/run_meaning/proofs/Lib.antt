@@ -10,7 +10,16 @@ pub mod Kept
 pub mod Replies
 pub mod EventLemmas
 pub mod Lives
-pub mod EchoLemmas
 pub mod Throughout
 pub mod Staying
 pub mod Following
+pub mod Leaving
+pub mod EchoLemmas
+pub mod BoolLemmas
+pub mod NoteLemmas
+pub mod LineLemmas
+pub mod StepLemmas
+pub mod WhyLemmas
+pub mod BridgeLemmas
+pub mod OrderedLemmas
+pub mod TellLemmas

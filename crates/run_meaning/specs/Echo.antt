@@ -8,7 +8,7 @@ use Rattle.ws_kinds.specs.EventValue.{EventValue, WhatValue}
 use Rattle.ws_kinds.specs.OrderValue.{OrderValue, send}
 use Rattle.wire_meaning.specs.Answer.{Item}
 use Rattle.run_meaning.specs.Notes.{is_of, window}
-use Rattle.run_meaning.specs.Server.{Server}
+use Rattle.run_meaning.specs.Server.{Server, every_topic}
 use Rattle.run_meaning.specs.Lines.{Line, moved, route_after, sends, data_frame, is_refused}
 
 -- the orders that answer what happened on a connection of this route
@@ -20,9 +20,9 @@ echo_by conn route _ = []
 abbrev pub echo_said : EventValue → List OrderValue
 echo_said event = echo_by event.conn event.route event.what
 
--- this handler, which has no state, with these texts of replies
+-- this handler, which has no state, where every topic may be subscribed to, with these texts of replies
 abbrev pub echo_server : (ℕ → List ℕ) → Server (Unit {0})
-echo_server replies = record { start = tt; after = λ state _. state; said = λ _ event. echo_said event; reply = replies }
+echo_server replies = record { start = tt; after = λ state _. state; said = λ _ event. echo_said event; admits = every_topic; reply = replies }
 
 -- ---- one connection by itself
 

@@ -11,5 +11,10 @@ pub mod Life
 pub mod Replies
 pub mod Settled
 pub mod Right
+pub mod Steps
+pub mod Performs
+pub mod Bridge
+pub mod Tell
+pub mod Quiet
 pub mod Echo
 pub mod View

@@ -162,6 +162,7 @@ fn sends(
             Opcode::Pong,
             Bytes::of(alloc, body)?,
         ))),
+        (_, Note::Pinged(_)) => Ok(Some(OwnedItem::Whole(Opcode::Ping, Bytes::of(alloc, &[])?))),
         (Some(Phase::Open), Note::PeerClose { code, .. }) => Ok(Some(close_item(alloc, code)?)),
         (Some(Phase::Open), Note::Failed { code, .. }) => Ok(Some(close_item(alloc, code)?)),
         (_, _) => Ok(None),

@@ -13,7 +13,7 @@ use ws_kinds::{Conn, Kind, Note};
 const MOST: usize = 1_048_577;
 
 /// The most octets of one read, and of one message.
-const PIECE: usize = 8192;
+const PIECE: usize = 8_192;
 
 /// All octets of a source, or the first of them where there are more than are read.
 fn all_of<S: Source>(alloc: Global, source: &mut S) -> Result<Vec<u8>, AllocError> {

@@ -4,9 +4,9 @@ use Rattle.std.specs.Prelude.{IfSome}
 use Rattle.std.specs.Result.{result_ok}
 use Rattle.std.specs.List.{AllByRecursion}
 use Rattle.std.proofs.lemmas.Bool.{and_parts, leb-true, ltb-true}
-use Rattle.link_trait.specs.Schedule.{is_number, is_plain, is_rising, can_send, is_sound, is_sound_after, are_sound_after}
-use Rattle.link_trait.specs.declared.schedule.Act.{Act}
-use Rattle.link_trait.specs.declared.schedule.Act.TheVariants as act
+use Rattle.mem_net.specs.Schedule.{is_number, is_plain, is_rising, can_send, is_sound, is_sound_after, are_sound_after}
+use Rattle.link_trait.specs.declared.act.Act.{Act}
+use Rattle.link_trait.specs.declared.act.Act.TheVariants as act
 use Rattle.schedule_text.specs.declared.fault.ReadFault.{ReadFault}
 use Rattle.schedule_text.specs.Spelling.{IsNumber, SendsOctets, HasLine, schedule_text}
 use Rattle.schedule_text.specs.Reading.{IsReadAgain, IsText, IsUnlessMemory}

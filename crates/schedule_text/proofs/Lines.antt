@@ -4,8 +4,8 @@ use Rattle.std.specs.List.{AllByRecursion}
 use Rattle.std.proofs.lemmas.Bool.{leb-true, le-leb, eqb-true, and_parts}
 use Rattle.std.proofs.lemmas.Bool.Decides.{nat_tests}
 use Rattle.ws_kinds.specs.declared.conn.Conn.{Conn}
-use Rattle.link_trait.specs.declared.schedule.Act.{Act}
-use Rattle.link_trait.specs.declared.schedule.Act.TheVariants as act
+use Rattle.link_trait.specs.declared.act.Act.{Act}
+use Rattle.link_trait.specs.declared.act.Act.TheVariants as act
 use Rattle.schedule_text.specs.Line.{hex}
 use Rattle.schedule_text.specs.Spelling.{spelled, HasLine, IsNumber}
 use Rattle.schedule_text.specs.Front.{◌>>=◌, octet_at, number_at, conn_at, sent_at, pairs_at, named_at, arrival_at, octets_at, alone_at, with_conn, act_at}

@@ -2,7 +2,7 @@
 use Rattle.std.proofs.Common.{◌≡◌, ℕ, suc, ◌+◌, ◌<◌, List, [], ◌∷◌, ◌++◌, Option, true, length, get_or, take, drop, sym, ap, subst, ◌∙◌, append_assoc}
 use Rattle.std.specs.List.{flat_map, AllByRecursion}
 use Rattle.std.proofs.lemmas.List.{take_more}
-use Rattle.link_trait.specs.declared.schedule.Act.{Act}
+use Rattle.link_trait.specs.declared.act.Act.{Act}
 use Rattle.schedule_text.specs.Spelling.{SendsOctets, header, schedule_text, spelled}
 use Rattle.schedule_text.specs.Output.{Puts, Fails, WritesText}
 use Rattle.schedule_text.proofs.Outputs.{fails_more, puts_fails, puts_then, put_whole, flat_map_next, flat_map_parted}

@@ -3,9 +3,9 @@ use Rattle.std.proofs.Common.{◌≡◌, ◌≢◌, ℕ, ◌+◌, ◌<◌, ◌�
 use Rattle.std.specs.List.{flat_map, AllByRecursion}
 use Rattle.std.proofs.lemmas.List.{append-nil}
 use Rattle.std.proofs.lemmas.Bool.{and_parts}
-use Rattle.link_trait.specs.Schedule.{is_number, is_rising, has_arrived, has_ended, can_send, is_sound_after, are_sound_after}
-use Rattle.link_trait.specs.declared.schedule.Act.{Act}
-use Rattle.link_trait.specs.declared.schedule.Act.TheVariants as act
+use Rattle.mem_net.specs.Schedule.{is_number, is_rising, has_arrived, has_ended, can_send, is_sound_after, are_sound_after}
+use Rattle.link_trait.specs.declared.act.Act.{Act}
+use Rattle.link_trait.specs.declared.act.Act.TheVariants as act
 use Rattle.schedule_text.specs.declared.fault.Fault.{Fault}
 use Rattle.schedule_text.specs.declared.fault.Fault.TheVariants as fault
 use Rattle.schedule_text.specs.declared.fault.ReadFault.{ReadFault}

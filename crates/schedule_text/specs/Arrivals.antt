@@ -2,8 +2,8 @@
 use Rattle.std.specs.Prelude.{◌≡◌, ◌≤◌, ℕ, List, Option, Some, None, Bool, true, false, nat_eq, nat_lt, if◌then◌else◌}
 use Rattle.std.specs.Ordering.{nat_cmp}
 use Rattle.std.specs.BTreeMap.{get}
-use Rattle.link_trait.specs.Schedule.{is_rising, has_arrived, has_ended}
-use Rattle.link_trait.specs.declared.schedule.Act.{Act}
+use Rattle.mem_net.specs.Schedule.{is_rising, has_arrived, has_ended}
+use Rattle.link_trait.specs.declared.act.Act.{Act}
 use Rattle.schedule_text.specs.declared.arrivals.Arrivals.{Arrivals}
 
 -- whether the octets of a connection ended, if it arrived

@@ -5,8 +5,8 @@ use Rattle.std.specs.List.{prefix_len}
 use Rattle.std.specs.Str.Parse.{digits_value}
 use Rattle.std.specs.declared.alloc.AllocError.{AllocError}
 use Rattle.std.specs.Global.{Vec}
-use Rattle.link_trait.specs.declared.schedule.Act.{Act}
-use Rattle.link_trait.specs.declared.schedule.Act.TheVariants as act
+use Rattle.link_trait.specs.declared.act.Act.{Act}
+use Rattle.link_trait.specs.declared.act.Act.TheVariants as act
 use Rattle.ws_kinds.specs.declared.conn.Conn.{Conn}
 
 infixl 10 ◌>>=◌

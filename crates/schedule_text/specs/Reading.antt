@@ -1,9 +1,9 @@
 -- What `read` answers.
 use Rattle.std.specs.Prelude.{◌≡◌, ◌≢◌, ◌≤◌, ◌<◌, ◌+◌, ◌++◌, ℕ, List, Option, Some, None, Result, Ok, Err, true, length, not, if◌then◌else◌, ◌⊎◌, ⊤}
 use Rattle.std.specs.List.{AllByRecursion}
-use Rattle.link_trait.specs.Schedule.{is_plain, is_sound, is_rising, has_arrived, has_ended}
-use Rattle.link_trait.specs.declared.schedule.Act.{Act}
-use Rattle.link_trait.specs.declared.schedule.Act.TheVariants as act
+use Rattle.mem_net.specs.Schedule.{is_plain, is_sound, is_rising, has_arrived, has_ended}
+use Rattle.link_trait.specs.declared.act.Act.{Act}
+use Rattle.link_trait.specs.declared.act.Act.TheVariants as act
 use Rattle.schedule_text.specs.declared.fault.Fault.{Fault}
 use Rattle.schedule_text.specs.declared.fault.Fault.TheVariants as fault
 use Rattle.schedule_text.specs.declared.fault.ReadFault.{ReadFault}

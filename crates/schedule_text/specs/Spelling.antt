@@ -1,9 +1,9 @@
 -- The text of a schedule, version 1.
 use Rattle.std.specs.Prelude.{◌≡◌, ◌≤◌, ◌<◌, ◌^◌, ◌++◌, ℕ, List, [], ◌∷◌, Some, None, true, length, IfSome, ⊤, codes, decimal}
 use Rattle.std.specs.List.{flat_map, AllByRecursion}
-use Rattle.link_trait.specs.Schedule.{is_plain}
-use Rattle.link_trait.specs.declared.schedule.Act.{Act}
-use Rattle.link_trait.specs.declared.schedule.Act.TheVariants as act
+use Rattle.mem_net.specs.Schedule.{is_plain}
+use Rattle.link_trait.specs.declared.act.Act.{Act}
+use Rattle.link_trait.specs.declared.act.Act.TheVariants as act
 use Rattle.schedule_text.specs.Line.{hex, line}
 
 -- an act as a line

@@ -15,7 +15,7 @@ pub(crate) struct Arrivals {
 
 impl Arrivals {
     ghost use Rattle.std.specs.Prelude.{◌≡◌, ◌≤◌, ◌++◌, [], ◌∷◌, List, None, OnOk};
-    ghost use Rattle.link_trait.specs.declared.schedule.Act.{Act};
+    ghost use Rattle.link_trait.specs.declared.act.Act.{Act};
     ghost use Rattle.schedule_text.specs.Spelling.{HasLine};
     ghost use Rattle.schedule_text.specs.Reading.{fault_after, rising_fault, sending_fault, naming_fault};
     ghost use Rattle.schedule_text.specs.Arrivals.{Follows, Arrives, Ends};

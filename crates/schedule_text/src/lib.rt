@@ -15,6 +15,9 @@
 //!
 //! C is a number from 1 to 4,294,967,295. Numbers are decimal digits without a leading zero. Until links with short writes
 //! come, an `a` line with a number, a `w` line and a `b` line are written and not read.
+//!
+//! A text of more than 1,048,576 octets is not read. Printing has no such limit: what it writes can be read again where the
+//! text has at most 1,048,576 octets and only lines that are read. Then it spells these acts and no others.
 #![tactic(auto)]
 
 mod arrivals;

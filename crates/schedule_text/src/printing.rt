@@ -1,13 +1,14 @@
 //! Schedules as text.
 
 ghost use Rattle.std.specs.Prelude.{◌≡◌, true};
-ghost use Rattle.link_trait.specs.Schedule.{is_sound};
+ghost use Rattle.mem_net.specs.Schedule.{is_sound};
 ghost use Rattle.schedule_text.specs.Spelling.{SendsOctets, schedule_text, spelled};
 ghost use Rattle.schedule_text.specs.Reading.{IsReadAgain};
 ghost use Rattle.schedule_text.specs.Output.{WritesText};
 
 use crate::output::{write_hex, write_numbers, write_word};
-use link_trait::{Act, Schedule, Sink};
+use link_trait::{Act, Sink};
+use mem_net::Schedule;
 
 /// Writes the text of a schedule, which is sound, and answers whether the sink took all of it.
 ///

@@ -1,7 +1,7 @@
 //! Schedules read from text.
 
 ghost use Rattle.std.specs.Prelude.{◌≡◌, ◌≤◌, ◌++◌, ℕ, List, Ok, Err, length, IfOk, IfErr};
-ghost use Rattle.link_trait.specs.declared.schedule.Act.{Act};
+ghost use Rattle.link_trait.specs.declared.act.Act.{Act};
 ghost use Rattle.schedule_text.specs.declared.fault.Fault.{Fault};
 ghost use Rattle.schedule_text.specs.Spelling.{header};
 ghost use Rattle.schedule_text.specs.Reading.{IsText, IsRefused, IsReading, IsUnlessMemory, RefusesWell};
@@ -9,7 +9,7 @@ ghost use Rattle.schedule_text.specs.Reading.{IsText, IsRefused, IsReading, IsUn
 use crate::arrivals::Arrivals;
 use crate::cursor::Cursor;
 use crate::fault::{Fault, ReadFault};
-use link_trait::Schedule;
+use mem_net::Schedule;
 use std::alloc::Global;
 
 /// The most octets of a schedule's text.

@@ -30,9 +30,7 @@ pub fn report_note<K: Sink>(note: &Note<'_>, sink: &mut K) -> bool
         }
         Note::PingGot { conn, body } => write_shown(sink, b"ping", &[conn.0], body),
         Note::PongGot { conn, body } => write_shown(sink, b"pong", &[conn.0], body),
-        Note::PeerClose { conn, code, reason } => {
-            write_shown(sink, b"peerclose", &[conn.0, code.into()], reason)
-        }
+        Note::PeerClose { conn, code, reason } => write_end(sink, b"peerclose", conn, code, reason),
         Note::Failed { conn, code } => write_numbers(sink, b"failed", &[conn.0, code.into()]),
         Note::Took {
             conn,
@@ -51,9 +49,7 @@ pub fn report_note<K: Sink>(note: &Note<'_>, sink: &mut K) -> bool
             dropped,
             drained,
         } => write_word(sink, b"told", &[conn.0, dropped], drained_word(drained)),
-        Note::Closed { conn, code, reason } => {
-            write_shown(sink, b"closed", &[conn.0, code.into()], reason)
-        }
+        Note::Closed { conn, code, reason } => write_end(sink, b"closed", conn, code, reason),
         Note::Gone { conn, left } => write_word(sink, b"gone", &[conn.0], left_word(left)),
     }
 }
@@ -71,6 +67,13 @@ pub fn report_link<K: Sink>(conn: Conn, held: u64, octets: &[u8], sink: &mut K) 
 pub fn one_report()
     ensures { IsOneToOne }
 {}
+
+/// Writes a line of a word, a connection, and the code and the reason with which it was closed.
+fn write_end<K: Sink>(sink: &mut K, word: &[u8], conn: Conn, code: u16, reason: &[u8]) -> bool
+    ensures { WritesText (line (parts word.now (conn.0 ∷ code ∷ []) (shown reason.now ∷ []))) (K.written sink.old) (K.written sink.new) (K.faults sink.old) (K.faults sink.new) result }
+{
+    write_shown(sink, word, &[conn.0, code.into()], reason)
+}
 
 /// Writes a line of a word, numbers, and octets as hexadecimal digits, or `-` for none.
 fn write_shown<K: Sink>(sink: &mut K, word: &[u8], numbers: &[u64], octets: &[u8]) -> bool

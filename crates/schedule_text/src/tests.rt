@@ -1,21 +1,18 @@
 ghost use Rattle.std.specs.Prelude.{◌≡◌, ◌≤◌, [], true, length, IfSome};
 ghost use Rattle.std.specs.List.{AllByRecursion};
-ghost use Rattle.link_trait.specs.Schedule.{is_plain, is_sound};
+ghost use Rattle.mem_net.specs.Schedule.{is_plain, is_sound};
 ghost use Rattle.schedule_text.specs.Spelling.{schedule_text};
 
 use super::*;
-use link_trait::{Act, MemSink, Schedule};
+use link_trait::{Act, MemSink};
+use mem_net::Schedule;
 use std::alloc::Global;
 use std::test::*;
 use ws_kinds::{Bytes, Conn, Kind, Left, Note, Why};
 
-fn sink(rt: &HostRuntime, room: usize) -> Result<MemSink, Fail> {
-    let none = Bytes::of(rt.alloc(), b"").ok().ok_or("memory")?;
-    Ok(
-        MemSink::new(rt.alloc(), 7, none, room)
-            .ok()
-            .ok_or("memory")?,
-    )
+fn sink(alloc: Global, room: usize) -> Result<MemSink, Fail> {
+    let none = Bytes::of(alloc, b"").ok().ok_or("memory")?;
+    Ok(MemSink::new(alloc, 7, none, room).ok().ok_or("memory")?)
 }
 
 fn refused(line: u64, fault: Fault) -> Option<ReadFault> {
@@ -33,37 +30,43 @@ fn read_back(alloc: Global, schedule: &Schedule, sink: &mut MemSink) -> Option<S
     read(alloc, sink.octets()).ok()
 }
 
+/// Texts that are read, and how many acts they have.
+const TEXTS: &[(&[u8], usize)] = &[
+    (b"corked 1\n", 0),
+    (b"corked 1\nt\n.\n", 2),
+    (b"corked 1\na 1 *\n", 1),
+    (b"corked 1\na 4294967295 *\n", 1),
+    (b"corked 1\na 9 *\na 10 *\na 100 *\n", 3),
+    (b"corked 1\na 1 *\nr 1 00\nr 1 ff09a0\n.\n", 4),
+    (b"corked 1\na 1 *\na 2 *\ne 1\nr 2 81\nf 2\n.\n", 6),
+    (b"corked 1\na 7 *\nr 7 0123456789abcdef\n", 2),
+    (b"corked 1\na 1 *\nr 1 61\nt\n.\ne 1\na 2 *\nt\n.\n", 8),
+];
+
+// The functions below that go over a table answer the place of the first row that goes otherwise.
+
 /// What `read` gives is printed as the text that was read.
+fn other_text(alloc: Global, rows: &[(&[u8], usize)]) -> Result<Option<usize>, Fail> {
+    for (place, (text, count)) in rows.iter().enumerate() {
+        let mut sink = sink(alloc, 200)?;
+        let schedule = read(alloc, text).ok().ok_or("refused")?;
+        let again = read_back(alloc, &schedule, &mut sink).ok_or("refused")?;
+        let counts = (schedule.acts().len(), again.acts().len());
+        if counts != (*count, *count) || sink.octets() != *text {
+            return Ok(Some(place));
+        }
+    }
+    Ok(None)
+}
+
 #[test]
 fn texts_are_read_and_printed(rt: HostRuntime) -> Result<(), Fail> {
-    let texts: [(&[u8], usize); 9] = [
-        (b"corked 1\n", 0),
-        (b"corked 1\nt\n.\n", 2),
-        (b"corked 1\na 1 *\n", 1),
-        (b"corked 1\na 4294967295 *\n", 1),
-        (b"corked 1\na 9 *\na 10 *\na 100 *\n", 3),
-        (b"corked 1\na 1 *\nr 1 00\nr 1 ff09a0\n.\n", 4),
-        (b"corked 1\na 1 *\na 2 *\ne 1\nr 2 81\nf 2\n.\n", 6),
-        (b"corked 1\na 7 *\nr 7 0123456789abcdef\n", 2),
-        (b"corked 1\na 1 *\nr 1 61\nt\n.\ne 1\na 2 *\nt\n.\n", 8),
-    ];
-    for (text, count) in texts {
-        let mut sink = sink(&rt, 200)?;
-        match read(rt.alloc(), text) {
-            Ok(schedule) => {
-                assert_eq!(rt; schedule.acts().len(), count);
-                let again = read_back(rt.alloc(), &schedule, &mut sink).ok_or("refused")?;
-                assert_eq!(rt; again.acts().len(), count);
-            }
-            Err(_) => return Err("refused".into()),
-        }
-        assert_eq!(rt; sink.octets(), text);
-    }
+    assert_eq!(rt; other_text(rt.alloc(), TEXTS)?, None);
     Ok(())
 }
 
 /// Each part of each line is wrong in turn. All stand as line 3.
-const BAD_LINES: [&[u8]; 58] = [
+const BAD_LINES: &[&[u8]] = &[
     b"\n",
     b"\r\n",
     b" t\n",
@@ -124,125 +127,157 @@ const BAD_LINES: [&[u8]; 58] = [
     b"b 1\n",
 ];
 
-#[test]
-fn bad_lines(rt: HostRuntime) -> Result<(), Fail> {
-    for line in BAD_LINES {
-        let mut text = Vec::from_slice(rt.alloc(), b"corked 1\na 1 *\n")?;
+fn other_bad_line(alloc: Global, lines: &[&[u8]]) -> Result<Option<usize>, Fail> {
+    for (place, line) in lines.iter().enumerate() {
+        let mut text = Vec::from_slice(alloc, b"corked 1\na 1 *\n")?;
         text.extend_from_slice(line)?;
-        assert_eq!(rt; read(rt.alloc(), &text).err(), refused(3, Fault::BadLine));
+        if read(alloc, &text).err() != refused(3, Fault::BadLine) {
+            return Ok(Some(place));
+        }
     }
-    Ok(())
+    Ok(None)
 }
 
 /// The first rule that is broken, at the first line that breaks one.
-#[test]
-fn faults(rt: HostRuntime) {
-    let table: [(&[u8], u64, Fault); 34] = [
-        (b"", 1, Fault::BadHeader),
-        (b"\n", 1, Fault::BadHeader),
-        (b"corked 1", 1, Fault::BadHeader),
-        (b"corked 1 \n", 1, Fault::BadHeader),
-        (b"corked 1\r\n", 1, Fault::BadHeader),
-        (b"corked 2\nt\n", 1, Fault::BadHeader),
-        (b"corked 01\n", 1, Fault::BadHeader),
-        (b"corked  1\n", 1, Fault::BadHeader),
-        (b"Corked 1\n", 1, Fault::BadHeader),
-        (b" corked 1\n", 1, Fault::BadHeader),
-        (b"t\n", 1, Fault::BadHeader),
-        (b"corked 1\na 1 *\nr 1 8\n", 3, Fault::BadLine),
-        (b"corked 1\nt\n.", 3, Fault::BadLine),
-        (b"corked 1\na 1 *\na 1 *", 3, Fault::BadLine),
-        (b"corked 1\na 0 *\n", 2, Fault::BadLine),
-        (b"corked 1\na 4294967296 *\n", 2, Fault::BadLine),
-        (b"corked 1\na 18446744073709551617 *\n", 2, Fault::BadLine),
-        (
-            b"corked 1\na 99999999999999999999999999 *\n",
-            2,
-            Fault::BadLine,
-        ),
-        (b"corked 1\ne 0\n", 2, Fault::BadLine),
-        (b"corked 1\na 2 *\na 2 *\n", 3, Fault::NotRising),
-        (b"corked 1\na 2 *\na 1 *\n", 3, Fault::NotRising),
-        (b"corked 1\na 1 *\na 9 *\na 5 *\n", 4, Fault::NotRising),
-        (b"corked 1\nr 1 00\n", 2, Fault::UnknownConn),
-        (b"corked 1\ne 1\n", 2, Fault::UnknownConn),
-        (b"corked 1\nf 4294967295\n", 2, Fault::UnknownConn),
-        (b"corked 1\na 2 *\nr 1 00\n", 3, Fault::UnknownConn),
-        (b"corked 1\na 2 *\ne 2\nf 3\n", 4, Fault::UnknownConn),
-        (b"corked 1\na 1 *\ne 1\nr 1 00\n", 4, Fault::AfterEnd),
-        (b"corked 1\na 1 *\nf 1\nr 1 00\n", 4, Fault::AfterEnd),
-        (b"corked 1\na 1 *\ne 1\ne 1\n", 4, Fault::AfterEnd),
-        (b"corked 1\na 1 *\ne 1\nf 1\n", 4, Fault::AfterEnd),
-        (b"corked 1\na 1 *\nf 1\na 2 *\nt\nf 1\n", 6, Fault::AfterEnd),
-        (b"corked 1\nr 1 8\ne 1\n", 2, Fault::BadLine),
-        (b"corked 1\na 1 *\ne 1\ne 1\nx\n", 4, Fault::AfterEnd),
-    ];
-    for (text, line, fault) in table {
-        assert_eq!(rt; read(rt.alloc(), text).err(), refused(line, fault));
+const FAULTS: &[(&[u8], u64, Fault)] = &[
+    (b"", 1, Fault::BadHeader),
+    (b"\n", 1, Fault::BadHeader),
+    (b"corked 1", 1, Fault::BadHeader),
+    (b"corked 1 \n", 1, Fault::BadHeader),
+    (b"corked 1\r\n", 1, Fault::BadHeader),
+    (b"corked 2\nt\n", 1, Fault::BadHeader),
+    (b"corked 01\n", 1, Fault::BadHeader),
+    (b"corked  1\n", 1, Fault::BadHeader),
+    (b"Corked 1\n", 1, Fault::BadHeader),
+    (b" corked 1\n", 1, Fault::BadHeader),
+    (b"t\n", 1, Fault::BadHeader),
+    (b"corked 1\na 1 *\nr 1 8\n", 3, Fault::BadLine),
+    (b"corked 1\nt\n.", 3, Fault::BadLine),
+    (b"corked 1\na 1 *\na 1 *", 3, Fault::BadLine),
+    (b"corked 1\na 0 *\n", 2, Fault::BadLine),
+    (b"corked 1\na 4294967296 *\n", 2, Fault::BadLine),
+    (b"corked 1\na 18446744073709551617 *\n", 2, Fault::BadLine),
+    (
+        b"corked 1\na 99999999999999999999999999 *\n",
+        2,
+        Fault::BadLine,
+    ),
+    (b"corked 1\ne 0\n", 2, Fault::BadLine),
+    (b"corked 1\na 2 *\na 2 *\n", 3, Fault::NotRising),
+    (b"corked 1\na 2 *\na 1 *\n", 3, Fault::NotRising),
+    (b"corked 1\na 1 *\na 9 *\na 5 *\n", 4, Fault::NotRising),
+    (b"corked 1\nr 1 00\n", 2, Fault::UnknownConn),
+    (b"corked 1\ne 1\n", 2, Fault::UnknownConn),
+    (b"corked 1\nf 4294967295\n", 2, Fault::UnknownConn),
+    (b"corked 1\na 2 *\nr 1 00\n", 3, Fault::UnknownConn),
+    (b"corked 1\na 2 *\ne 2\nf 3\n", 4, Fault::UnknownConn),
+    (b"corked 1\na 1 *\ne 1\nr 1 00\n", 4, Fault::AfterEnd),
+    (b"corked 1\na 1 *\nf 1\nr 1 00\n", 4, Fault::AfterEnd),
+    (b"corked 1\na 1 *\ne 1\ne 1\n", 4, Fault::AfterEnd),
+    (b"corked 1\na 1 *\ne 1\nf 1\n", 4, Fault::AfterEnd),
+    (b"corked 1\na 1 *\nf 1\na 2 *\nt\nf 1\n", 6, Fault::AfterEnd),
+    (b"corked 1\nr 1 8\ne 1\n", 2, Fault::BadLine),
+    (b"corked 1\na 1 *\ne 1\ne 1\nx\n", 4, Fault::AfterEnd),
+];
+
+fn other_fault(alloc: Global, rows: &[(&[u8], u64, Fault)]) -> Option<usize> {
+    for (place, (text, line, fault)) in rows.iter().enumerate() {
+        if read(alloc, text).err() != refused(*line, *fault) {
+            return Some(place);
+        }
     }
+    None
 }
 
 /// A front of a schedule is one, or is refused at the line of the cut.
-#[test]
-fn schedules_cut_after_each_octet(rt: HostRuntime) -> Result<(), Fail> {
-    let text = b"corked 1\na 1 *\nr 1 00ff61\n.\na 22 *\nt\ne 1\nf 22\n.\n";
+fn other_front(alloc: Global, text: &[u8]) -> Option<usize> {
     let mut lines = 0_u64;
-    let mut front = Vec::new(rt.alloc());
-    for octet in text {
-        let fault = if lines == 0 {
-            Fault::BadHeader
-        } else {
-            Fault::BadLine
-        };
-        front.push(*octet)?;
+    for (place, octet) in text.iter().enumerate() {
+        let mut wanted = refused(lines.saturating_add(1), Fault::BadLine);
         if *octet == b'\n' {
             lines = lines.saturating_add(1);
-            assert_eq!(rt; read(rt.alloc(), &front).err(), None);
-        } else {
-            assert_eq!(rt;
-                read(rt.alloc(), &front).err(),
-                refused(lines.saturating_add(1), fault)
-            );
+            wanted = None;
+        } else if lines == 0 {
+            wanted = refused(1, Fault::BadHeader);
+        }
+        if read(alloc, &text[..=place]).err() != wanted {
+            return Some(place);
         }
     }
-    Ok(())
+    None
+}
+
+/// A front, a part that follows it so many times, an end, and how the text is refused.
+const SIZES: &[(&[u8], &[u8], usize, &[u8], Option<(u64, Fault)>)] = &[
+    // an act has at most 8,192 octets
+    (b"corked 1\na 1 *\nr 1 ", b"0a", 8_192, b"\n", None),
+    (
+        b"corked 1\na 1 *\nr 1 ",
+        b"0a",
+        8_193,
+        b"\n",
+        Some((3, Fault::BadLine)),
+    ),
+    // a text has at most 1,048,576 octets
+    (
+        b"corked 1\n",
+        b"t\n",
+        524_283,
+        b".",
+        Some((524_285, Fault::BadLine)),
+    ),
+    (
+        b"corked 1\n",
+        b"t\n",
+        524_283,
+        b".\n",
+        Some((0, Fault::TooLong)),
+    ),
+];
+
+fn refusal(
+    alloc: Global,
+    front: &[u8],
+    part: &[u8],
+    times: usize,
+    end: &[u8],
+) -> Result<Option<ReadFault>, Fail> {
+    let middle = part.repeat(alloc, times)?;
+    let mut text = Vec::from_slice(alloc, front)?;
+    text.extend_from_slice(&middle)?;
+    text.extend_from_slice(end)?;
+    Ok(read(alloc, &text).err())
+}
+
+fn other_size(
+    alloc: Global,
+    rows: &[(&[u8], &[u8], usize, &[u8], Option<(u64, Fault)>)],
+) -> Result<Option<usize>, Fail> {
+    for (place, (front, part, times, end, wanted)) in rows.iter().enumerate() {
+        let wanted = match *wanted {
+            Some((line, fault)) => refused(line, fault),
+            None => None,
+        };
+        if refusal(alloc, front, part, *times, end)? != wanted {
+            return Ok(Some(place));
+        }
+    }
+    Ok(None)
 }
 
 #[test]
-fn acts_have_at_most_8192_octets(rt: HostRuntime) -> Result<(), Fail> {
-    let mut text = Vec::from_slice(rt.alloc(), b"corked 1\na 1 *\nr 1 ")?;
-    for _ in 0..8_192 {
-        text.extend_from_slice(b"0a")?;
-    }
-    let mut longer = Vec::from_slice(rt.alloc(), &text)?;
-    text.push(b'\n')?;
-    longer.extend_from_slice(b"0a\n")?;
-    assert_eq!(rt; read(rt.alloc(), &text).err(), None);
-    assert_eq!(rt; read(rt.alloc(), &longer).err(), refused(3, Fault::BadLine));
-    Ok(())
-}
-
-#[test]
-fn texts_have_at_most_1048576_octets(rt: HostRuntime) -> Result<(), Fail> {
-    let mut text = Vec::from_slice(rt.alloc(), b"corked 1\n")?;
-    for _ in 0..524_283 {
-        text.extend_from_slice(b"t\n")?;
-    }
-    text.push(b'.')?;
-    assert_eq!(rt; text.len(), 1_048_576);
-    assert_eq!(rt;
-        read(rt.alloc(), &text).err(),
-        refused(524_285, Fault::BadLine)
-    );
-    text.push(b'\n')?;
-    assert_eq!(rt; read(rt.alloc(), &text).err(), refused(0, Fault::TooLong));
+fn texts_are_refused(rt: HostRuntime) -> Result<(), Fail> {
+    assert_eq!(rt; other_bad_line(rt.alloc(), BAD_LINES)?, None);
+    assert_eq!(rt; other_fault(rt.alloc(), FAULTS), None);
+    let text = b"corked 1\na 1 *\nr 1 00ff61\n.\na 22 *\nt\ne 1\nf 22\n.\n";
+    assert_eq!(rt; other_front(rt.alloc(), text), None);
+    assert_eq!(rt; other_size(rt.alloc(), SIZES)?, None);
     Ok(())
 }
 
 /// Every act, also those that are not read yet.
-#[test]
-fn acts_are_printed(rt: HostRuntime) -> Result<(), Fail> {
-    let octets = Bytes::of(rt.alloc(), b"\x00\x81").ok().ok_or("memory")?;
+fn every_act(alloc: Global) -> Result<Schedule, Fail> {
+    let octets = Bytes::of(alloc, b"\x00\x81").ok().ok_or("memory")?;
     let acts = [
         Act::Arrive {
             conn: Conn(1),
@@ -266,12 +301,18 @@ fn acts_are_printed(rt: HostRuntime) -> Result<(), Fail> {
         Act::Tick,
         Act::Turn,
     ];
-    let mut schedule = Schedule::new(rt.alloc());
+    let mut schedule = Schedule::new(alloc);
     for act in acts {
         schedule.push(act)?;
     }
+    Ok(schedule)
+}
+
+#[test]
+fn acts_are_printed(rt: HostRuntime) -> Result<(), Fail> {
+    let schedule = every_act(rt.alloc())?;
     assert!(rt; schedule.sound());
-    let mut sink = sink(&rt, 100)?;
+    let mut sink = sink(rt.alloc(), 100)?;
     assert!(rt; print(&schedule, &mut sink));
     let text = b"corked 1\na 1 0\na 2 *\nr 1 0081\nw 1 4294967295\nb 2\ne 1\nf 2\nt\n.\n";
     assert_eq!(rt; sink.octets(), text.as_slice());
@@ -281,7 +322,7 @@ fn acts_are_printed(rt: HostRuntime) -> Result<(), Fail> {
 const CONN: Conn = Conn(7);
 
 /// Every note, with numbers at the ends of their ranges.
-const NOTES: [(Note<'static>, &[u8]); 27] = [
+const NOTES: &[(Note<'static>, &[u8])] = &[
     (Note::Turn, b"turn\n"),
     (Note::Tick, b"tick\n"),
     (Note::Accepted(Conn(0)), b"accept 0\n"),
@@ -445,54 +486,88 @@ const NOTES: [(Note<'static>, &[u8]); 27] = [
     ),
 ];
 
-#[test]
-fn notes_are_reported(rt: HostRuntime) -> Result<(), Fail> {
-    for (note, line) in NOTES {
-        let mut sink = sink(&rt, 100)?;
-        assert!(rt; report_note(&note, &mut sink));
-        assert_eq!(rt; sink.octets(), line);
+fn other_note(alloc: Global, rows: &[(Note<'static>, &[u8])]) -> Result<Option<usize>, Fail> {
+    for (place, (note, line)) in rows.iter().enumerate() {
+        let mut sink = sink(alloc, 100)?;
+        if !report_note(note, &mut sink) || sink.octets() != *line {
+            return Ok(Some(place));
+        }
     }
-    Ok(())
+    Ok(None)
+}
+
+/// Links: the connection, the octets held, those taken, and the line.
+const LINKS: &[(Conn, u64, &[u8], &[u8])] = &[
+    (Conn(1), 0, b"", b"link 1 0 -\n"),
+    (
+        Conn(20),
+        14,
+        b"\x81\x05Hello",
+        b"link 20 14 810548656c6c6f\n",
+    ),
+];
+
+fn other_link(alloc: Global, rows: &[(Conn, u64, &[u8], &[u8])]) -> Result<Option<usize>, Fail> {
+    for (place, (conn, held, octets, line)) in rows.iter().enumerate() {
+        let mut sink = sink(alloc, 100)?;
+        if !report_link(*conn, *held, octets, &mut sink) || sink.octets() != *line {
+            return Ok(Some(place));
+        }
+    }
+    Ok(None)
 }
 
 #[test]
-fn links_are_reported(rt: HostRuntime) -> Result<(), Fail> {
-    let mut sink = sink(&rt, 100)?;
-    assert!(rt; report_link(Conn(1), 0, b"", &mut sink));
-    assert!(rt; report_link(Conn(20), 14, b"\x81\x05Hello", &mut sink));
-    let lines = b"link 1 0 -\nlink 20 14 810548656c6c6f\n";
-    assert_eq!(rt; sink.octets(), lines.as_slice());
+fn notes_and_links_are_reported(rt: HostRuntime) -> Result<(), Fail> {
+    assert_eq!(rt; other_note(rt.alloc(), NOTES)?, None);
+    assert_eq!(rt; other_link(rt.alloc(), LINKS)?, None);
     Ok(())
+}
+
+/// A link with so many octets, in a sink with this room: whether all was taken, and what was.
+fn long_link(alloc: Global, count: usize, room: usize) -> Result<(bool, MemSink), Fail> {
+    let octets = b"\xab".repeat(alloc, count)?;
+    let mut sink = sink(alloc, room)?;
+    let all = report_link(Conn(1), 0, &octets, &mut sink);
+    Ok((all, sink))
 }
 
 /// Octets of more than one buffer, and a sink that is full before their end.
 #[test]
 fn long_lines_are_written_in_parts(rt: HostRuntime) -> Result<(), Fail> {
-    let octets = [0xab; 3_000];
-    let mut all = sink(&rt, 7_000)?;
-    assert!(rt; report_link(Conn(1), 0, &octets, &mut all));
+    let (is_whole, all) = long_link(rt.alloc(), 3_000, 7_000)?;
+    assert!(rt; is_whole);
     assert_eq!(rt; all.octets().len(), 6_010);
     assert!(rt; all.octets().starts_with(b"link 1 0 abab"));
     assert!(rt; all.octets().ends_with(b"abab\n"));
-    let mut few = sink(&rt, 2_000)?;
-    assert!(rt; !report_link(Conn(1), 0, &octets, &mut few));
+    let (is_whole, few) = long_link(rt.alloc(), 3_000, 2_000)?;
+    assert!(rt; !is_whole);
     assert!(rt; all.octets().starts_with(few.octets()));
     Ok(())
 }
 
+/// The texts of faults.
+const NAMES: &[(Fault, &str)] = &[
+    (Fault::TooLong, "too long"),
+    (Fault::BadHeader, "bad header"),
+    (Fault::BadLine, "bad line"),
+    (Fault::NotRising, "number not rising"),
+    (Fault::UnknownConn, "unknown connection"),
+    (Fault::AfterEnd, "after end"),
+];
+
+fn other_name(alloc: Global, rows: &[(Fault, &str)]) -> Result<Option<usize>, Fail> {
+    for (place, (fault, text)) in rows.iter().enumerate() {
+        let shown = format!(in alloc; "{fault}")?;
+        if shown.as_str() != *text {
+            return Ok(Some(place));
+        }
+    }
+    Ok(None)
+}
+
 #[test]
 fn faults_have_texts(rt: HostRuntime) -> Result<(), Fail> {
-    let table = [
-        (Fault::TooLong, "too long"),
-        (Fault::BadHeader, "bad header"),
-        (Fault::BadLine, "bad line"),
-        (Fault::NotRising, "number not rising"),
-        (Fault::UnknownConn, "unknown connection"),
-        (Fault::AfterEnd, "after end"),
-    ];
-    for (fault, text) in table {
-        let shown = format!(in rt.alloc(); "{fault}")?;
-        assert_eq!(rt; shown.as_str(), text);
-    }
+    assert_eq!(rt; other_name(rt.alloc(), NAMES)?, None);
     Ok(())
 }

@@ -1,11 +1,11 @@
 -- What is noted of octets that are offered, and what a link took of a connection whose write failed.
-use Rattle.std.proofs.Common.{◌≡◌, ◌+◌, ℕ, List, [], ◌∷◌, ◌++◌, Option, Some, None, Bool, true, ◌&&◌, cond, nat_eq, length, take, sym, ap, ◌∙◌, arith}
+use Rattle.std.proofs.Common.{◌≡◌, ◌+◌, ℕ, List, [], ◌∷◌, ◌++◌, Option, Some, None, Bool, true, ◌&&◌, cond, nat_eq, length, take, refl, sym, ap, ◌∙◌, arith}
 use Rattle.std.proofs.lemmas.Bool.Decides.{nat_tests}
 use Rattle.std.proofs.lemmas.List.{length-append, length-take-le}
 use Rattle.std.specs.List.{list_all}
 use Rattle.ws_kinds.specs.NoteValue as note
 use Rattle.ws_kinds.specs.NoteValue.{NoteValue}
-use Rattle.ws_kinds.specs.Watch.{IsNoted}
+use Rattle.ws_kinds.specs.Watch.{IsNoted, AreNoted}
 use Rattle.link_trait.specs.NetState.{NetState}
 use Rattle.link_trait.specs.Net.{Writes}
 use Rattle.link_trait.specs.declared.net.NetWrote.TheVariants as wrote
@@ -14,9 +14,10 @@ use Rattle.run_meaning.specs.Counts.{writes, taken}
 use Rattle.hub_lines.specs.Told.{taken_of}
 use Rattle.hub_lines.specs.Lines.{Held, Stands, IsCounted, held_octets}
 use Rattle.hub_lines.proofs.NetLemmas.{taken_failed}
-use Rattle.hub_notes.specs.Noted.{AreNoted, is_sending}
-use Rattle.hub_notes.specs.Fronts.{TakesFront}
+use Rattle.run_meaning.specs.Notes.{is_sending}
+use Rattle.hub_lines.specs.Fronts.{TakesFront}
 use Rattle.socket_core.specs.Puts.{OffersNoted}
+use Rattle.socket_core.specs.declared.socket.Kept.TheVariants.{Clear}
 
 same_number : (c : ℕ) → nat_eq c c ≡ true
 same_number c = grind (arith, nat_tests)
@@ -35,10 +36,11 @@ writes_took c o m = ap (λ (z : Bool). cond z ((o, m) ∷ []) [] ++ []) (same_nu
 pub taken_took : (c o m : ℕ) → taken c (note.took c o m ∷ []) ≡ m
 taken_took c o m = grind (arith, nat_tests)
 
-pub offers_took : (c m : ℕ) (octets : List ℕ) (on nn : NetState) (t t' : Option (List NoteValue)) → Writes c octets (wrote.Took m) on nn → IsNoted t (note.took c (length octets) m) t' → OffersNoted c on nn t t'
+pub offers_took : (c m : ℕ) (octets : List ℕ) (on nn : NetState) (t t' : Option (List NoteValue)) → Writes c octets (wrote.Took m) on nn → IsNoted t (note.took c (length octets) m) t' → OffersNoted Clear c on nn t t'
 offers_took c m octets on nn t t' w told = record {
   notes = note.took c (length octets) m ∷ [];
   own = own_took c (length octets) m;
+  dropped = refl;
   told = one_noted t t' (note.took c (length octets) m) told;
   wrote = λ tells. (w.told tells).wrote ∙ ap (λ (z : List (ℕ × ℕ)). on.wrote c ++ z) (sym (writes_took c (length octets) m));
   taken = λ tells. ap length (w.told tells).taken ∙ length-append (on.taken c) (take m octets)

@@ -2,13 +2,13 @@
 use Rattle.std.specs.Prelude.{◌≡◌, ◌≢◌, ◌≤◌, ◌+◌, ℕ, List, [], ◌++◌, Option, true, length, ⊤}
 use Rattle.std.specs.List.{list_all}
 use Rattle.ws_kinds.specs.NoteValue.{NoteValue, took}
-use Rattle.ws_kinds.specs.Watch.{IsNoted}
+use Rattle.ws_kinds.specs.Watch.{IsNoted, AreNoted}
 use Rattle.link_trait.specs.Link.{Rose}
 use Rattle.link_trait.specs.NetState.{NetState}
 use Rattle.link_trait.specs.Net.{Same, SameBut, SameNet, SameTrafficBut, Writes}
 use Rattle.link_trait.specs.declared.net.NetWrote.TheVariants.{Took as Accepted, Failed as WriteFailed}
-use Rattle.run_meaning.specs.Counts.{writes, taken}
-use Rattle.hub_notes.specs.Noted.{AreNoted, is_sending}
+use Rattle.run_meaning.specs.Counts.{writes, taken, drops}
+use Rattle.run_meaning.specs.Notes.{is_sending}
 use Rattle.socket_core.specs.declared.socket.Kept.{Kept}
 use Rattle.socket_core.specs.declared.socket.Kept.TheVariants.{Clear, Backlog, Dropped, Failed}
 
@@ -54,10 +54,17 @@ pub record KeepsNet (conn : ℕ) (old new : NetState) : Type 0 where
   pub room : new.room ≤ old.room
   pub port : new.port ≡ old.port
 
--- what is noted of a connection's octets that were offered: each write that took, and each drop, all of this connection
-pub record OffersNoted (conn : ℕ) (old new : NetState) (old_told new_told : Option (List NoteValue)) : Type 0 where
+-- how many items were dropped, by the answer
+abbrev pub drops_in : Kept → ℕ
+drops_in (Dropped held) = 1
+drops_in _ = 0
+
+-- what is noted of a connection's octets that were offered: each write that took, and each drop, all of this connection; an
+-- item is dropped exactly where the answer says so
+pub record OffersNoted (answer : Kept) (conn : ℕ) (old new : NetState) (old_told new_told : Option (List NoteValue)) : Type 0 where
   pub notes : List NoteValue
   pub own : list_all (is_sending conn) notes ≡ true
+  pub dropped : length (drops conn notes) ≡ drops_in answer
   pub told : AreNoted old_told notes new_told
   pub wrote : old.tells ≡ true → new.wrote conn ≡ old.wrote conn ++ writes conn notes
   pub taken : old.tells ≡ true → length (new.taken conn) ≡ length (old.taken conn) + taken conn notes

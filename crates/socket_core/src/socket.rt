@@ -7,7 +7,7 @@ ghost use Rattle.hub_lines.specs.State.{new_entry};
 ghost use Rattle.hub_lines.specs.Moves.{Moves, Others, buffered_of};
 ghost use Rattle.socket_core.specs.Items.{octets_of, can_drop, IsPuttable};
 ghost use Rattle.socket_core.specs.Phases.{can_enter};
-ghost use Rattle.hub_notes.specs.Fronts.{FailsWithin};
+ghost use Rattle.hub_lines.specs.Fronts.{FailsWithin};
 ghost use Rattle.socket_core.specs.Puts.{TellsRing, TellsFailure, OffersNoted, OffersOnce, KeepsNet};
 
 use crate::item::{Item, spell};
@@ -54,7 +54,7 @@ impl Model for Socket {
       phase = socket.phase;
       numbered = socket.numbered;
       ring = [];
-      quiet = record { ticks = 0; leaving = None };
+      quiet = record { ticks = 0; leaving = 0 };
     } };
 
     ghost invariant = { λ socket. socket.config.max_message + 256 ≤ vec_capacity socket.octets };
@@ -96,7 +96,7 @@ impl Socket {
         ensures noted { WritesAreNoted (N.state out.old.net) (W.told out.old.watch) → WritesAreNoted (N.state out.new.net) (W.told out.new.watch) }
 
         // Nothing else is noted, and the link took what the notes say.
-        ensures offers { OffersNoted self.old.conn (N.state out.old.net) (N.state out.new.net) (W.told out.old.watch) (W.told out.new.watch) }
+        ensures offers { OffersNoted result self.old.conn (N.state out.old.net) (N.state out.new.net) (W.told out.old.watch) (W.told out.new.watch) }
 
         // Where a write fails, the link took a front of the line with this item behind it.
         ensures front { result ≡ Kept.Failed → FailsWithin self.old.conn (octets_of item.entry ∷ []) (buffered_of self.old [])

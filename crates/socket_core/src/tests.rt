@@ -5,10 +5,11 @@ ghost use Rattle.wire_meaning.specs.Answer.{spelled, whole};
 ghost use Rattle.hub_lines.specs.Moves.{Moves, buffered_of};
 ghost use Rattle.ws_kinds.specs.ConfigValue.{usual_config};
 ghost use Rattle.std.specs.List.{list_all};
-ghost use Rattle.link_trait.specs.Schedule as spec;
+ghost use Rattle.mem_net.specs.Schedule as spec;
 
 use super::*;
-use link_trait::{Act, MemNet, Net, NetEvent, Outside, Schedule};
+use link_trait::{Act, Net, NetEvent, Outside};
+use mem_net::{MemNet, Schedule};
 use std::test::*;
 use ws_kinds::{Config, Conn, Note, Phase, Recorder, Tally, Watch};
 

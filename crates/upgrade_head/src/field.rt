@@ -19,7 +19,7 @@ impl<'h> Fields<'h> {
     ghost use Rattle.upgrade_head.specs.Field.{values_of, has_field, has_value, has_element, only_value};
     ghost use Rattle.upgrade_head.specs.View.{fields_seen};
 
-    // The value of the first field of this name, and the fields behind it. Letters have no case in names.
+    /// The value of the first field of this name, and the fields behind it. Letters have no case in names.
     fn first_named(self, name: &[u8]) -> Option<(&'h [u8], Fields<'h>)>
         ensures found { MatchOption result
             (values_of name.now (fields_seen self.entry) ≡ [])

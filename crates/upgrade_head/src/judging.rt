@@ -17,6 +17,12 @@ use memchr::memmem;
 use route_table::Routes;
 use std::str;
 
+/// The most octets of a head.
+const MOST_OCTETS: usize = 8_192;
+
+/// The most fields of a head.
+const MOST_FIELDS: usize = 64;
+
 /// What is decided of a connection that is not open yet.
 #[derive(Clone, Copy, Debug, PartialEq, Eq)]
 pub enum Head<'a> {
@@ -39,19 +45,19 @@ pub enum Head<'a> {
     Refuse(u16),
 }
 
-// The first 8,192 octets, in which a head has to end.
+/// The first 8,192 octets, in which a head has to end.
 fn bounded(octets: &[u8]) -> &[u8]
     ensures value { result.now ≡ take 8192 octets.now }
     ensures shorter { length result.now ≤ length octets.now }
     ensures short { length result.now ≤ 8192 }
 {
-    if octets.len() < 8192 {
+    if octets.len() < MOST_OCTETS {
         return octets;
     }
-    &octets[..8192]
+    &octets[..MOST_OCTETS]
 }
 
-// How many octets the head has, where it ends within the first 8,192.
+/// How many octets the head has, where it ends within the first 8,192.
 fn head_end(octets: &[u8]) -> Option<usize>
     ensures value { result ≡ head_end octets.now }
     ensures within { IfSome result (λ end. end ≤ length octets.now) }
@@ -63,7 +69,7 @@ fn head_end(octets: &[u8]) -> Option<usize>
     }
 }
 
-// Where the parts of a whole head stand, if the octets are one.
+/// Where the parts of a whole head stand, if the octets are one.
 fn spans_of(head: &[u8], headers: &mut [HeaderSpan]) -> Option<RequestSpans>
     requires { length headers.old ≡ 64 }
     ensures none { IfNone result (¬ (IsWholeHead head.now)) }
@@ -84,7 +90,7 @@ fn question_mark(target: &[u8]) -> Option<usize>
     target.iter().position(|octet| *octet == b'?')
 }
 
-// The target up to its first question mark.
+/// The target up to its first question mark.
 fn path_of(target: &[u8]) -> &[u8]
     ensures { result.now ≡ path_of target.now }
 {
@@ -102,7 +108,7 @@ fn asks_to_upgrade(fields: Fields<'_>) -> bool
         && fields.has_element(Letters::AnyCase, b"Connection", b"upgrade")
 }
 
-// Whether the client offers this subprotocol, which is not empty.
+/// Whether the client offers this subprotocol, which is not empty.
 fn is_offered(protocol: &[u8], fields: Fields<'_>) -> bool
     ensures { result ≡ is_offered protocol.now (fields_seen fields.entry) }
 {
@@ -110,7 +116,7 @@ fn is_offered(protocol: &[u8], fields: Fields<'_>) -> bool
         && fields.has_element(Letters::AsWritten, b"Sec-WebSocket-Protocol", protocol)
 }
 
-// The route of a path, and its first parameter.
+/// The route of a path, and its first parameter.
 #[tactic(auto, using(crate::proofs::PathLemmas::utf8_tests))]
 fn route_of<'a>(path: &'a [u8], routes: &Routes) -> Option<(u8, &'a [u8])>
     ensures value { option_map (λ route. (route.0, route.1.now)) result ≡ route_of routes.now path.now }
@@ -123,7 +129,7 @@ fn route_of<'a>(path: &'a [u8], routes: &Routes) -> Option<(u8, &'a [u8])>
     }
 }
 
-// What is decided of a head that asks to upgrade.
+/// What is decided of a head that asks to upgrade.
 fn judge_key<'a>(head: &'a [u8], target: &'a [u8], fields: Fields<'_>, routes: &Routes) -> Head<'a>
     ensures value { verdict_of result ≡ by_key routes.now (fields_seen fields.entry) target.now (length head.now) (key_of (fields_seen fields.entry)) }
     ensures decided { IsDecided routes.now (length head.now) (verdict_of result) }
@@ -146,7 +152,7 @@ fn judge_key<'a>(head: &'a [u8], target: &'a [u8], fields: Fields<'_>, routes: &
     }
 }
 
-// What is decided of a head whose parts stand there.
+/// What is decided of a head whose parts stand there.
 fn judge_parts<'a>(
     head: &'a [u8],
     spans: RequestSpans,
@@ -170,12 +176,12 @@ fn judge_parts<'a>(
     judge_key(head, spans.path.of(head), fields, routes)
 }
 
-// What is decided of the octets up to the end of the head.
+/// What is decided of the octets up to the end of the head.
 fn judge_head<'a>(head: &'a [u8], routes: &Routes) -> Head<'a>
     ensures judged { JudgedHead routes.now head.now (verdict_of result) }
     ensures decided { IsDecided routes.now (length head.now) (verdict_of result) }
 {
-    let mut headers = [EMPTY_HEADER_SPAN; 64];
+    let mut headers = [EMPTY_HEADER_SPAN; MOST_FIELDS];
     match spans_of(head, &mut headers) {
         Some(spans) => judge_parts(head, spans, &headers, routes),
         None => Head::Refuse(400),
@@ -214,7 +220,7 @@ pub fn judge<'a>(octets: &'a [u8], routes: &Routes) -> Head<'a>
 {
     match head_end(octets) {
         Some(end) => judge_head(&octets[..end], routes),
-        None if octets.len() < 8192 => Head::More,
+        None if octets.len() < MOST_OCTETS => Head::More,
         None => Head::Refuse(431),
     }
 }

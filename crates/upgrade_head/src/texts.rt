@@ -5,15 +5,17 @@ ghost use Rattle.upgrade_head.specs.Texts.{protocol_line, reply_text, is_refusal
 
 use arrayvec::ArrayVec;
 
-// Appends a part, for which there is room.
+/// Appends a part, for which there is room.
 fn put(text: &mut ArrayVec<u8, 256>, part: &[u8])
     requires { length text.old.items + length part.now ≤ 256 }
     ensures { text.new.items ≡ text.old.items ++ part.now }
 {
-    let _ = text.try_extend_from_slice(part);
+    if text.try_extend_from_slice(part).is_err() {
+        unreachable!("there is room");
+    }
 }
 
-// Appends the line that answers a subprotocol, if there is one.
+/// Appends the line that answers a subprotocol, if there is one.
 fn put_protocol(text: &mut ArrayVec<u8, 256>, protocol: &[u8])
     requires { length text.old.items + length protocol.now + 26 ≤ 256 }
     ensures line { text.new.items ≡ text.old.items ++ protocol_line protocol.now }
@@ -47,7 +49,7 @@ pub fn reply(accept: &[u8; 28], protocol: &[u8]) -> ArrayVec<u8, 256>
     text
 }
 
-// The text of a refusal.
+/// The text of a refusal.
 fn refusal_lines(status: u16) -> &'static [u8]
     requires { IsTrue (is_refusal status) }
     ensures text { result.now ≡ refusal_text status }

@@ -29,7 +29,7 @@ fn is_blank(octet: u8) -> bool
     octet == b' ' || octet == b'\t'
 }
 
-// The octets without the spaces and tabs at their ends.
+/// The octets without the spaces and tabs at their ends.
 fn trimmed(octets: &[u8]) -> &[u8]
     ensures { result.now ≡ trim_ows octets.now }
 {

@@ -29,6 +29,7 @@ enum Language {
     Chinese,
 }
 
+/// The way that a word names.
 fn way_of(word: &str) -> Option<Way> {
     match word {
         "none" => Some(Way::Nothing),
@@ -38,6 +39,7 @@ fn way_of(word: &str) -> Option<Way> {
     }
 }
 
+/// The language that a word names.
 fn language_of(word: &str) -> Option<Language> {
     match word {
         "english" => Some(Language::English),
@@ -46,6 +48,7 @@ fn language_of(word: &str) -> Option<Language> {
     }
 }
 
+/// A sentence of the language.
 fn sample_of(language: Language) -> &'static str {
     match language {
         Language::English => "The quick brown fox jumps over the lazy dog. ",
@@ -53,7 +56,7 @@ fn sample_of(language: Language) -> &'static str {
     }
 }
 
-// At least so many octets of whole samples.
+/// At least so many octets of whole samples.
 fn text_of(alloc: Global, sample: &str, size: usize) -> Result<Vec<u8>, AllocError> {
     let mut octets = Vec::new(alloc);
     for _ in 0..size {
@@ -65,6 +68,7 @@ fn text_of(alloc: Global, sample: &str, size: usize) -> Result<Vec<u8>, AllocErr
     Ok(octets)
 }
 
+/// Whether the octets are UTF-8, taken in pieces of `PIECE` octets.
 fn is_text_in_pieces(octets: &[u8]) -> bool {
     let mut utf8 = Utf8::new();
     for piece in octets.chunks(PIECE) {
@@ -75,6 +79,7 @@ fn is_text_in_pieces(octets: &[u8]) -> bool {
     utf8.ends()
 }
 
+/// Whether the octets are UTF-8, by this way. `Way::Nothing` reads none of them.
 fn is_text(way: Way, octets: &[u8]) -> bool {
     match way {
         Way::Nothing => true,
@@ -83,6 +88,7 @@ fn is_text(way: Way, octets: &[u8]) -> bool {
     }
 }
 
+/// Makes the text, checks it `ROUNDS` times, and writes how often it was UTF-8.
 fn run(rt: &impl Print, alloc: Global, way: Way, language: Language, mib: usize) -> io::Result<()> {
     let octets = text_of(alloc, sample_of(language), mib.min(MAX_MIB) * MIB)?;
     let mut found = 0u32;
@@ -94,6 +100,7 @@ fn run(rt: &impl Print, alloc: Global, way: Way, language: Language, mib: usize)
     println!(rt; "{found} of {ROUNDS}")
 }
 
+/// What the words of the command ask for, if they are three that fit.
 fn asked(rt: &HostRuntime) -> Option<(Way, Language, usize)> {
     let mut words = env::args(rt).ok()?.skip(1);
     let way = way_of(words.next()?.as_str())?;

@@ -5,23 +5,13 @@ use Rattle.std.proofs.lemmas.List.{take_at, drop_at, take_all, drop_all, take-ap
 use Rattle.std.proofs.lemmas.Bool.{and_parts, cases_lt}
 use Rattle.std.proofs.lemmas.Str.{IsUtf8-from_is_utf8, is_utf8-from_IsUtf8, IsUtf8-nil, IsUtf8-append, IsUtf8-take, IsUtf8-drop, IsUtf8-encode, IsCharBoundary-start, IsCharBoundary-from_take, IsCharBoundary-after_ascii, length-encode, len_utf8_bounds}
 use Rattle.std.specs.Prelude.{IsUtf8, is_none}
+use Rattle.std.specs.Cmp.{both_ways}
 use Rattle.std.specs.Str.{is_utf8, IsValidUpTo}
 use Rattle.std.specs.Str.Lossy.{utf8_valid_len, utf8_error_len}
 use lib.Utf8.{encode, encodes, scalars, scalar}
 use Rattle.wire_meaning.specs.Text.{is_text_front}
-use Rattle.wire_meaning.proofs.TextFront.{continuation_of, front_of_continued}
+use Rattle.wire_meaning.proofs.TextFront.{longest, continuation_of, front_of_continued}
 use Rattle.utf8_stream.specs.Unfinished.{IsUnfinished, IsWholeUpTo}
-
--- ---- tests
-
-pub false_unless_true : (b : Bool) → ¬ (b ≡ true) → b ≡ false
-false_unless_true true h = absurd (h refl)
-false_unless_true false h = refl
-
-same_tests : (a b : Bool) → (a ≡ true → b ≡ true) → (b ≡ true → a ≡ true) → a ≡ b
-same_tests true b f g = sym (f refl)
-same_tests false true f g = g refl
-same_tests false false f g = refl
 
 -- ---- text behind text
 
@@ -31,7 +21,7 @@ text_behind xs ys u w = subst IsUtf8 (drop_at xs ys (length xs) refl)
     (IsCharBoundary-from_take (xs ++ ys) (length xs) w (omega (arith, length-append xs ys)) (subst IsUtf8 (sym (take_at xs ys (length xs) refl)) u)))
 
 pub is_utf8-behind : (xs ys : List ℕ) → IsUtf8 xs → is_utf8 (xs ++ ys) ≡ is_utf8 ys
-is_utf8-behind xs ys u = same_tests (is_utf8 (xs ++ ys)) (is_utf8 ys)
+is_utf8-behind xs ys u = both_ways (is_utf8 (xs ++ ys)) (is_utf8 ys)
     (λ e. is_utf8-from_IsUtf8 ys (text_behind xs ys u (IsUtf8-from_is_utf8 (xs ++ ys) e)))
     (λ e. is_utf8-from_IsUtf8 (xs ++ ys) (IsUtf8-append xs ys u (IsUtf8-from_is_utf8 ys e)))
 
@@ -44,7 +34,7 @@ is_utf8-parted bs more n u = ap is_utf8 (parted bs more n) ∙ is_utf8-behind (t
 
 -- octets whose front is text can become text exactly where the rest can
 pub is_text_front-drop : (bs : List ℕ) (n : ℕ) → IsUtf8 (take n bs) → is_text_front bs ≡ is_text_front (drop n bs)
-is_text_front-drop bs n u = same_tests (is_text_front bs) (is_text_front (drop n bs))
+is_text_front-drop bs n u = both_ways (is_text_front bs) (is_text_front (drop n bs))
     (λ e. let c = continuation_of bs e in
     front_of_continued (drop n bs) c.0 (text_behind (take n bs) (drop n bs ++ c.0) u (subst IsUtf8 (parted bs c.0 n) c.1)))
     (λ e. let c = continuation_of (drop n bs) e in
@@ -94,30 +84,6 @@ first_leads t u some =
 
 -- ---- the longest front that is text
 
-record IsLongest (bs : List ℕ) (v n : ℕ) : Type 0 where
-  within : v ≤ n
-  front : IsUtf8 (take v bs)
-  longest : (k : ℕ) → v < k → k ≤ n → ¬ (IsUtf8 (take k bs))
-
-longest_step : (bs : List ℕ) (v n : ℕ) (test : Bool) → is_utf8 (take (suc n) bs) ≡ test → IsLongest bs v n → (w : ℕ) × IsLongest bs w (suc n)
-longest_step bs v n true e l = (suc n, record { within = omega arith; front = IsUtf8-from_is_utf8 (take (suc n) bs) e; longest = λ k p q. absurd (omega arith) })
-longest_step bs v n false e l = (
-  v,
-  record {
-    within = let w : v ≤ n = l.within in omega arith;
-    front = l.front;
-    longest = λ k p q u. elim (cases_lt n k) [
-      | inl lt ↦ let same : k ≡ suc n = omega arith in
-          absurd (let t : is_utf8 (take (suc n) bs) ≡ true = is_utf8-from_IsUtf8 (take (suc n) bs) (subst (λ (j : ℕ). IsUtf8 (take j bs)) same u) in cc)
-      | inr le ↦ l.longest k p le u
-    ];
-  },
-)
-
-longest_of : (bs : List ℕ) (n : ℕ) → (v : ℕ) × IsLongest bs v n
-longest_of bs zero = (0, record { within = omega arith; front = IsUtf8-nil; longest = λ k p q. absurd (omega arith) })
-longest_of bs (suc n) = let l = longest_of bs n in longest_step bs l.0 n (is_utf8 (take (suc n) bs)) refl l.1
-
 -- behind it stands what is unfinished
 whole_longest : (bs : List ℕ) (v : ℕ) → is_text_front bs ≡ true → v ≤ length bs → IsUtf8 (take v bs) → ((k : ℕ) → v < k → k ≤ length bs → ¬ (IsUtf8 (take k bs))) → IsWholeUpTo bs v
 whole_longest bs v e within front longest = record {
@@ -129,7 +95,7 @@ whole_longest bs v e within front longest = record {
 }
 
 pub IsWholeUpTo-some : (bs : List ℕ) → is_text_front bs ≡ true → (n : ℕ) × IsWholeUpTo bs n
-IsWholeUpTo-some bs e = let l = longest_of bs (length bs) in (l.0, whole_longest bs l.0 e l.1.within l.1.front l.1.longest)
+IsWholeUpTo-some bs e = let l = longest bs in (utf8_valid_len bs, whole_longest bs (utf8_valid_len bs) e l.within l.front l.longest)
 
 -- ---- what `whole_len` answers
 

@@ -3,16 +3,16 @@ use Rattle.std.proofs.Common.{◌≡◌, ℕ, ◌+◌, ◌-◌, ◌<◌, ◌≤�
 use Rattle.std.proofs.Math.Seq.{take-append-add}
 use Rattle.std.proofs.lemmas.List.{append-nil, take_all, take-take, length-take, take-append-le, take-append-drop, drop_more}
 use Rattle.std.proofs.lemmas.List.Concat.{flat_map-append}
-use Rattle.std.proofs.lemmas.Bool.{ne_eqb, cases_lt}
+use Rattle.std.proofs.lemmas.Bool.{ne_eqb, cases_lt, false_from_ne_true}
 use Rattle.std.proofs.lemmas.Str.{IsUtf8-from_is_utf8, is_utf8-from_IsUtf8, IsUtf8-nil}
 use Rattle.std.specs.Prelude.{IsUtf8, is_some, ◌==◌}
 use Rattle.std.specs.Str.{is_utf8}
 use Rattle.wire_meaning.specs.Text.{is_text_front}
-use Rattle.wire_meaning.proofs.TextFront.{continuation_of, front_of_continued, is_text_front-append}
+use Rattle.wire_meaning.proofs.TextFront.{continuation_of, front_of_continued, not_front}
 use Rattle.utf8_stream.specs.declared.stream.Utf8.{Utf8}
 use Rattle.utf8_stream.specs.Unfinished.{IsUnfinished, IsWholeUpTo, IsCarried}
 use Rattle.utf8_stream.specs.Stream.{accepts, Follows}
-use Rattle.utf8_stream.proofs.FrontLemmas.{false_unless_true, is_utf8-behind, is_utf8-parted}
+use Rattle.utf8_stream.proofs.FrontLemmas.{is_utf8-behind, is_utf8-parted}
 
 -- ---- for callers, who keep `Follows utf8 all` beside the octets `all`
 
@@ -33,12 +33,8 @@ accepts-from_is_text_front utf8 all follows e = let c = continuation_of all e in
 
 -- octets that no continuation makes UTF-8 stay so
 pub is_utf8-malformed : (all more : List ℕ) → is_text_front all ≡ false → is_utf8 (all ++ more) ≡ false
-is_utf8-malformed all more e = false_unless_true (is_utf8 (all ++ more)) (λ t.
+is_utf8-malformed all more e = false_from_ne_true (is_utf8 (all ++ more)) (λ t.
     let f : is_text_front all ≡ true = front_of_continued all more (IsUtf8-from_is_utf8 (all ++ more) t) in cc)
-
-pub is_text_front-malformed : (all more : List ℕ) → is_text_front all ≡ false → is_text_front (all ++ more) ≡ false
-is_text_front-malformed all more e = false_unless_true (is_text_front (all ++ more)) (λ t.
-    let f : is_text_front all ≡ true = is_text_front-append all more t in cc)
 
 -- ---- the two states
 
@@ -46,7 +42,7 @@ pub Follows-None : (all : List ℕ) → is_text_front all ≡ false → Follows 
 Follows-None all e = λ more. sym (is_utf8-malformed all more e)
 
 pub is_text_front-None : (all : List ℕ) → Follows None all → is_text_front all ≡ false
-is_text_front-None all follows = false_unless_true (is_text_front all) (λ e.
+is_text_front-None all follows = false_from_ne_true (is_text_front all) (λ e.
     let c = accepts-from_is_text_front None all follows e in let f : false ≡ true = c.1 in cc)
 
 pub is_text_front-Some : (carried all : List ℕ) → IsUnfinished carried → Follows (Some carried) all → is_text_front all ≡ true
@@ -64,7 +60,7 @@ pub accepts-nil : (carried : List ℕ) → IsUnfinished carried → accepts (Som
 accepts-nil [] u = is_utf8-from_IsUtf8 [] IsUtf8-nil
 accepts-nil (b ∷ bs) u =
     let some : 0 < length (b ∷ bs) = omega arith in
-    false_unless_true (is_utf8 ((b ∷ bs) ++ [])) (λ t.
+    false_from_ne_true (is_utf8 ((b ∷ bs) ++ [])) (λ t.
     u.open_ended (length (b ∷ bs)) some (omega arith)
     (subst IsUtf8 (append-nil (b ∷ bs) ∙ sym (take_all (length (b ∷ bs)) (b ∷ bs) (omega arith))) (IsUtf8-from_is_utf8 ((b ∷ bs) ++ []) t)))
     ∙ sym (ne_eqb (length (b ∷ bs)) 0 (omega arith))
@@ -89,7 +85,7 @@ pub Follows-malformed : (carried piece : List ℕ) (n : ℕ) → is_text_front (
 Follows-malformed carried piece n e =
     let whole : (carried ++ take n piece) ++ drop n piece ≡ carried ++ piece =
     append_assoc carried (take n piece) (drop n piece) ∙ ap (λ (s : List ℕ). carried ++ s) (take-append-drop n piece) in
-    Follows-None (carried ++ piece) (sym (ap is_text_front whole) ∙ is_text_front-malformed (carried ++ take n piece) (drop n piece) e)
+    Follows-None (carried ++ piece) (sym (ap is_text_front whole) ∙ not_front (carried ++ take n piece) (drop n piece) e)
 
 -- a whole character ends behind what was carried
 pub carried_lt : (carried piece : List ℕ) (whole : ℕ) → IsUnfinished carried → IsWholeUpTo (carried ++ piece) whole → 0 < whole → length carried < whole

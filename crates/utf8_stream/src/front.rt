@@ -7,7 +7,7 @@ ghost use Rattle.wire_meaning.specs.Text.{is_text_front};
 use simdutf8::compat::from_utf8;
 use simdutf8::is_utf8;
 
-// How many octets stand before the character that has not ended. None where no continuation is UTF-8.
+/// How many octets stand before the character that has not ended. None where no continuation is UTF-8.
 pub fn whole_len(octets: &[u8]) -> Option<usize>
     ensures { MatchOption result (is_text_front octets.now ≡ false) (λ len. IsWholeUpTo octets.now len) }
 {
@@ -20,7 +20,7 @@ pub fn whole_len(octets: &[u8]) -> Option<usize>
     }
 }
 
-// Where the last octet stands that begins a character of two octets or more.
+/// Where the last octet stands that begins a character of two octets or more.
 fn last_lead(octets: &[u8]) -> Option<usize>
     ensures { MatchOption result
         ((at : ℕ) → at < length octets.now → slice_index octets.now at < 192)
@@ -30,7 +30,7 @@ fn last_lead(octets: &[u8]) -> Option<usize>
     octets.iter().rposition(|&octet| octet >= 0xc0)
 }
 
-// Where the last character begins, if it begins among the last three octets, and their end if it does not.
+/// Where the last character begins, if it begins among the last three octets, and their end if it does not.
 fn last_start(octets: &[u8]) -> usize
     ensures within { result ≤ length octets.now }
     ensures near { length octets.now ≤ result + 3 }
@@ -43,7 +43,8 @@ fn last_start(octets: &[u8]) -> usize
     }
 }
 
-// As `whole_len`. All octets but the last three are read by vectors, and once, also where they end within a character.
+/// As `whole_len`, but all octets before the last character are checked by vectors, also where the octets end within it. The
+/// octets of the last character, where it begins among the last three, are checked by `whole_len`.
 pub fn long_whole_len(octets: &[u8]) -> Option<usize>
     ensures { MatchOption result (is_text_front octets.now ≡ false) (λ len. IsWholeUpTo octets.now len) }
 {

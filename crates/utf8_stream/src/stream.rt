@@ -20,10 +20,11 @@ pub enum Text {
 }
 
 /// Text that comes in pieces, as the payload of a text message does (RFC 6455, section 5.6). A piece may be empty, and
-/// may end within a character. At most three octets are carried from one piece to the next, and no call takes memory.
+/// may end within a character. At most three octets are carried from one piece to the next, those of a character that has
+/// not ended: they are looked at again with each piece until it ends. No call takes memory.
 #[derive(Drop)]
 pub struct Utf8 {
-    // the octets of the character that has not ended, and None once no continuation is UTF-8
+    /// The octets of the character that has not ended, and None once no continuation is UTF-8.
     carried: Option<ArrayVec<u8, 3>>,
 }
 
@@ -74,7 +75,7 @@ impl Utf8 {
     }
 }
 
-// Bad where nothing can be carried.
+/// Bad where nothing can be carried.
 fn text_of(carried: &Option<ArrayVec<u8, 3>>) -> Text
     ensures { is_front result ≡ is_some (carried_octets carried.now) }
 {
@@ -84,7 +85,7 @@ fn text_of(carried: &Option<ArrayVec<u8, 3>>) -> Text
     }
 }
 
-// A copy of so few octets.
+/// A copy of so few octets.
 fn copied(octets: &[u8]) -> ArrayVec<u8, 3>
     requires { length octets.now ≤ 3 }
     ensures { result.items ≡ octets.now }
@@ -92,7 +93,7 @@ fn copied(octets: &[u8]) -> ArrayVec<u8, 3>
     ArrayVec::try_from(octets).unwrap()
 }
 
-// What is carried behind these octets. None where no continuation is UTF-8.
+/// What is carried behind these octets. None where no continuation is UTF-8.
 fn carried_of(octets: &[u8]) -> Option<ArrayVec<u8, 3>>
     ensures carried { IsCarried (carried_octets result) }
     ensures follows { Follows (carried_octets result) octets.now }
@@ -101,7 +102,7 @@ fn carried_of(octets: &[u8]) -> Option<ArrayVec<u8, 3>>
     Some(copied(&octets[whole..]))
 }
 
-// What was carried, with the first octets of the piece, which hold the rest of its character if the piece has it.
+/// What was carried, with the first octets of the piece, which hold the rest of its character if the piece has it.
 fn joined(carried: &[u8], piece: &[u8]) -> ArrayVec<u8, 6>
     requires { length carried.now ≤ 3 }
     ensures { result.items ≡ carried.now ++ take 3 piece.now }
@@ -114,7 +115,7 @@ fn joined(carried: &[u8], piece: &[u8]) -> ArrayVec<u8, 6>
     joined
 }
 
-// What is carried behind the piece, where these octets were carried before it.
+/// What is carried behind the piece, where these octets were carried before it.
 fn carried_after(carried: &[u8], piece: &[u8]) -> Option<ArrayVec<u8, 3>>
     requires { IsUnfinished carried.now }
     ensures carried { IsCarried (carried_octets result) }

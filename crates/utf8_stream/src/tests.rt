@@ -2,39 +2,48 @@ use super::*;
 use std::alloc::{AllocError, Global};
 use std::test::*;
 
-// Characters of one to four octets: a, é, €, 😀, z, and the first and last of each length.
-const TEXTS: [&[u8]; 4] = [
-    b"a\xc3\xa9\xe2\x82\xac\xf0\x9f\x98\x80z",
-    b"\xf0\x9f\x98\x80\xe2\x82\xac\xc3\xa9a",
-    b"\x00\x7f\xc2\x80\xdf\xbf\xe0\xa0\x80\xef\xbf\xbf\xf0\x90\x80\x80\xf4\x8f\xbf\xbf",
-    b"\xed\x9f\xbf\xee\x80\x80",
-];
-
-// Octets that no continuation makes UTF-8, and how many of them suffice for that.
-const MALFORMED: [(&[u8], usize); 16] = [
+// Texts of characters of one to four octets, and octets that no continuation makes UTF-8 with how many of them suffice for
+// that.
+const ROWS: [(&[u8], Option<usize>); 20] = [
+    // a, é, €, 😀, z
+    (b"a\xc3\xa9\xe2\x82\xac\xf0\x9f\x98\x80z", None),
+    (b"\xf0\x9f\x98\x80\xe2\x82\xac\xc3\xa9a", None),
+    // the first and last character of each length, and the neighbours of the surrogates
+    (
+        b"\x00\x7f\xc2\x80\xdf\xbf\xe0\xa0\x80\xef\xbf\xbf\xf0\x90\x80\x80\xf4\x8f\xbf\xbf",
+        None,
+    ),
+    (b"\xed\x9f\xbf\xee\x80\x80", None),
     // spelled longer than need be
-    (b"\xc0\x80", 1),
-    (b"a\xc1\xbf", 2),
-    (b"\xe0\x80\x80", 2),
-    (b"\xc3\xa9\xe0\x9f\xbf", 4),
-    (b"\xf0\x80\x80\x80", 2),
-    (b"\xe2\x82\xac\xf0\x8f\xbf\xbf", 5),
+    (b"\xc0\x80", Some(1)),
+    (b"a\xc1\xbf", Some(2)),
+    (b"\xe0\x80\x80", Some(2)),
+    (b"\xc3\xa9\xe0\x9f\xbf", Some(4)),
+    (b"\xf0\x80\x80\x80", Some(2)),
+    (b"\xe2\x82\xac\xf0\x8f\xbf\xbf", Some(5)),
     // a surrogate, and past U+10FFFF
-    (b"\xed\xa0\x80", 2),
-    (b"\xf4\x90\x80\x80", 2),
-    (b"\xf5\x80\x80\x80", 1),
-    (b"ab\xff", 3),
+    (b"\xed\xa0\x80", Some(2)),
+    (b"\xf4\x90\x80\x80", Some(2)),
+    (b"\xf5\x80\x80\x80", Some(1)),
+    (b"ab\xff", Some(3)),
     // a continuation alone
-    (b"\x80", 1),
-    (b"\xc3\xa9\xa9", 3),
+    (b"\x80", Some(1)),
+    (b"\xc3\xa9\xa9", Some(3)),
     // a character that ends early, before ASCII and before another one
-    (b"\xc3a", 2),
-    (b"\xe2\x82a", 3),
-    (b"\xf0\x9f\x98\xc3\xa9", 4),
-    (b"\xf0\x9f\x98\x80\xf0\x9f\x98a", 8),
+    (b"\xc3a", Some(2)),
+    (b"\xe2\x82a", Some(3)),
+    (b"\xf0\x9f\x98\xc3\xa9", Some(4)),
+    (b"\xf0\x9f\x98\x80\xf0\x9f\x98a", Some(8)),
 ];
 
-// What std says of the octets: whether some continuation is UTF-8, and whether they are.
+// Two pieces, and whether they are UTF-8 together.
+const PIECES: [(&[u8], &[u8], bool); 3] = [
+    (b"\xe2\x82", b"\xac!", true),
+    (b"!\xe2\x82", b"", false),
+    (b"\xe2\x82", b"!", false),
+];
+
+/// What std says of the octets: whether some continuation is UTF-8, and whether they are.
 fn by_std(octets: &[u8]) -> (Text, bool) {
     match std::str::from_utf8(octets) {
         Ok(_) => (Text::Front, true),
@@ -43,12 +52,13 @@ fn by_std(octets: &[u8]) -> (Text, bool) {
     }
 }
 
+/// What is answered for the next piece, and behind it.
 fn answers(utf8: &mut Utf8, piece: &[u8]) -> (Text, bool) {
     let text = utf8.push(piece);
     (text, utf8.ends())
 }
 
-// Over three pieces each answer is std's for the octets so far.
+/// Over three pieces each answer is std's for the octets so far.
 fn agrees(octets: &[u8], first: usize, second: usize) -> bool {
     if first > second || second > octets.len() {
         return false;
@@ -59,25 +69,12 @@ fn agrees(octets: &[u8], first: usize, second: usize) -> bool {
         && answers(&mut utf8, &octets[second..]) == by_std(octets)
 }
 
+/// The octets agree over three pieces, wherever they are cut.
 fn agrees_at_each_cut(octets: &[u8]) -> bool {
     (0..=octets.len()).all(|second| (0..=second).all(|first| agrees(octets, first, second)))
 }
 
-#[test]
-fn text_at_each_cut(rt: HostRuntime) {
-    for octets in TEXTS {
-        assert!(rt; agrees_at_each_cut(octets), "{octets:?}");
-    }
-}
-
-#[test]
-fn malformed_at_each_cut(rt: HostRuntime) {
-    for (octets, _) in MALFORMED {
-        assert!(rt; agrees_at_each_cut(octets), "{octets:?}");
-    }
-}
-
-// How many octets were pushed, one by one, when the first Bad came.
+/// How many octets were pushed, one by one, when the first Bad came.
 fn first_bad(octets: &[u8]) -> Option<usize> {
     let mut utf8 = Utf8::new();
     for (i, octet) in octets.iter().enumerate() {
@@ -89,12 +86,10 @@ fn first_bad(octets: &[u8]) -> Option<usize> {
 }
 
 #[test]
-fn bad_at_the_first_malformed_octet(rt: HostRuntime) {
-    for (octets, bad) in MALFORMED {
-        assert_eq!(rt; first_bad(octets), Some(bad), "{octets:?}");
-    }
-    for octets in TEXTS {
-        assert_eq!(rt; first_bad(octets), None, "{octets:?}");
+fn every_cut_and_octet_by_octet(rt: HostRuntime) {
+    for (octets, bad) in ROWS {
+        assert!(rt; agrees_at_each_cut(octets), "{octets:?}");
+        assert_eq!(rt; first_bad(octets), bad, "{octets:?}");
     }
 }
 
@@ -111,7 +106,7 @@ fn all_pairs_of_octets(rt: HostRuntime) {
     }
 }
 
-// So many characters of three octets, which reach over many blocks of 64.
+/// So many characters of three octets, which reach over many blocks of vectors.
 fn long_text(alloc: Global, characters: usize) -> Result<Vec<u8>, AllocError> {
     let mut octets = Vec::new(alloc);
     for _ in 0..characters {
@@ -120,17 +115,13 @@ fn long_text(alloc: Global, characters: usize) -> Result<Vec<u8>, AllocError> {
     Ok(octets)
 }
 
+/// A long text agrees, wherever it is cut.
 fn long_text_agrees(alloc: Global) -> Result<bool, AllocError> {
     let octets = long_text(alloc, 100)?;
     Ok((0..=octets.len()).all(|cut| agrees(&octets, cut, octets.len())))
 }
 
-#[test]
-fn long_text_at_each_cut(rt: HostRuntime) {
-    let same = long_text_agrees(rt.alloc());
-    assert!(rt; matches!(same, Ok(true)));
-}
-
+/// What `are_utf8` answers for these two pieces.
 fn pieces_are_utf8(alloc: Global, first: &[u8], second: &[u8]) -> Result<bool, AllocError> {
     let pieces = vec![in alloc;
         Vec::from_slice(alloc, first)?,
@@ -140,11 +131,14 @@ fn pieces_are_utf8(alloc: Global, first: &[u8], second: &[u8]) -> Result<bool, A
 }
 
 #[test]
-fn pieces(rt: HostRuntime) {
-    let whole = pieces_are_utf8(rt.alloc(), b"\xe2\x82", b"\xac!");
-    let cut = pieces_are_utf8(rt.alloc(), b"!\xe2\x82", b"");
-    let bad = pieces_are_utf8(rt.alloc(), b"\xe2\x82", b"!");
-    assert!(rt; matches!(whole, Ok(true)));
-    assert!(rt; matches!(cut, Ok(false)));
-    assert!(rt; matches!(bad, Ok(false)));
+fn pieces_and_a_long_text(rt: HostRuntime) {
+    for (first, second, wanted) in PIECES {
+        let answer = pieces_are_utf8(rt.alloc(), first, second);
+        assert!(rt;
+            matches!(answer, Ok(is) if is == wanted),
+            "{first:?} {second:?}"
+        );
+    }
+    let same = long_text_agrees(rt.alloc());
+    assert!(rt; matches!(same, Ok(true)));
 }

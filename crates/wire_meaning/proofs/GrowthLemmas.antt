@@ -15,9 +15,9 @@ use Rattle.wire_meaning.specs.Frame.{Opening, is_final, opcode_of, is_masked, se
 use Rattle.wire_meaning.specs.Text.{is_text_front}
 use Rattle.wire_meaning.specs.Event.{Event, message, failed}
 use Rattle.wire_meaning.specs.Reading.{Begun, Front, more, ends, opens, gives, is_text, refuses_first, refuses_second, is_over, part_is, breach, data_front, frame_front, body_front, unless_breach, front_at, events_from, reads}
-use Rattle.wire_meaning.proofs.TextFront.{is_text_front-append}
+use Rattle.wire_meaning.proofs.TextFront.{not_front}
 use Rattle.wire_meaning.proofs.MaskLemmas.{unmasked-append}
-use Rattle.wire_meaning.proofs.ReadingLemmas.{Shorter, front_shorter, reads_is}
+use Rattle.wire_meaning.proofs.ReadingLemmas.{Shorter, front_shorter, reads_is, parts_front}
 
 -- what a front is when ys come behind its octets
 abbrev pub Extends : Front → List ℕ → Front → Type 0
@@ -64,12 +64,6 @@ frame_extends None final Close true payload rest ys = refl
 frame_extends None final Close false payload rest ys = tt
 frame_extends (Some begun) final Reserved whole payload rest ys = refl
 frame_extends None final Reserved whole payload rest ys = refl
-
-pub not_front : (all behind : List ℕ) → is_text_front all ≡ false → is_text_front (all ++ behind) ≡ false
-not_front all behind e = by_test (is_text_front (all ++ behind)) refl where
-  by_test : (b : Bool) → is_text_front (all ++ behind) ≡ b → is_text_front (all ++ behind) ≡ false
-  by_test true h = absurd (let t = is_text_front-append all behind h in cc)
-  by_test false h = h
 
 -- more payload octets of a frame that is not whole
 data_more : (final whole : Bool) (kind : Kind) (all behind ys rest : List ℕ) (front : Bool) → is_text_front all ≡ front
@@ -162,9 +156,6 @@ breach_sized max begun first second None = refl
 breach_sized max begun first second (Some (size, octets)) = breach_keyed max begun first second size (key_at second octets)
 
 -- the front that these parts give
-abbrev parts_front : ℕ → Option Begun → Opening → Front
-parts_front max begun o = unless_breach (breach max begun o) (body_front begun o.first o.size o.key o.payload o.rest)
-
 abbrev body_of : Option Begun → Opening → Front
 body_of begun o = body_front begun o.first o.size o.key o.payload o.rest
 

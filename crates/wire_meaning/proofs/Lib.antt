@@ -2,6 +2,7 @@ pub mod TextLemmas
 pub mod TextFront
 pub mod MaskLemmas
 pub mod ReadingLemmas
+pub mod BoundLemmas
 pub mod GrowthLemmas
 pub mod LastLemmas
 pub mod FrameLemmas

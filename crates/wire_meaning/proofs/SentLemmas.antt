@@ -2,7 +2,7 @@
 use Rattle.std.specs.Prelude.{not, ◌==◌, IsUtf8, if◌then◌else◌}
 use Rattle.std.proofs.Common.{◌≡◌, ℕ, Bool, true, false, cond, List, [], ◌∷◌, ◌++◌, length, drop, Option, None, refl, ◌∙◌, ◌<◌, ◌^◌, suc, arith}
 use Rattle.std.specs.Str.{is_utf8}
-use Rattle.std.proofs.lemmas.Bool.{ne_eqb}
+use Rattle.std.proofs.lemmas.Bool.{ne_eqb, cond_both}
 use Rattle.std.proofs.lemmas.Nat.{from_be_bytes-to_be_bytes_2}
 use Rattle.std.specs.Int.{w16, to_be_bytes}
 use Rattle.std.proofs.lemmas.Str.{is_utf8-from_IsUtf8}
@@ -14,17 +14,13 @@ use Rattle.wire_meaning.specs.Answer.{Sent, sent_octets, event_of, KeepsRules}
 use Rattle.wire_meaning.proofs.TextLemmas.{front_of_text}
 use Rattle.wire_meaning.proofs.FrameLemmas.{reads-frame}
 
-cond_same : {A : Type 0} (P : A → Type 0) (b : Bool) (x y : A) → P x → P y → P (cond b x y)
-cond_same P true x y p q = p
-cond_same P false x y p q = q
-
 pub closing_last : (payload : List ℕ) → is_last (closing payload) ≡ true
 closing_last payload =
     let P : Event → Type 0 = λ e. is_last e ≡ true in
-    cond_same P (length payload == 0) (closed 1005 []) _ refl
-    (cond_same P (length payload == 1) (failed 1002) _ refl
-    (cond_same P (not (is_sendable (close_code payload))) (failed 1002) _ refl
-    (cond_same P (not (is_utf8 (drop 2 payload))) (failed 1007) (closed (close_code payload) (drop 2 payload)) refl refl)))
+    cond_both (length payload == 0) (closed 1005 []) _ P (λ _. refl) (λ _.
+    cond_both (length payload == 1) (failed 1002) _ P (λ _. refl) (λ _.
+    cond_both (not (is_sendable (close_code payload))) (failed 1002) _ P (λ _. refl) (λ _.
+    cond_both (not (is_utf8 (drop 2 payload))) (failed 1007) (closed (close_code payload) (drop 2 payload)) P (λ _. refl) (λ _. refl))))
 
 abbrev pub then_rest : Event → List Event → List Event
 then_rest event events = event ∷ (if is_last event then [] else events)

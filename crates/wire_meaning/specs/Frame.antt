@@ -16,15 +16,25 @@ is_final first = nat_le 128 first
 abbrev pub has_reserved_bit : ℕ → Bool
 has_reserved_bit first = not (first / 16 % 8 == 0)
 
--- the opcode, the low four bits of the first octet; 3 to 7 and 11 to 15 are reserved
+-- the number of an opcode; Reserved stands for several, 3 among them, and no frame that is sent has it
+abbrev pub opcode_number : Opcode → ℕ
+opcode_number Continuation = 0
+opcode_number (Begins Text) = 1
+opcode_number (Begins Binary) = 2
+opcode_number Close = 8
+opcode_number Ping = 9
+opcode_number Pong = 10
+opcode_number Reserved = 3
+
+-- the opcode whose number the low four bits of the first octet are; 3 to 7 and 11 to 15 are reserved
 abbrev pub opcode_of : ℕ → Opcode
 opcode_of first = let low = first % 16 in
-    if low == 0 then Continuation
-    else (if low == 1 then Begins Text
-    else (if low == 2 then Begins Binary
-    else (if low == 8 then Close
-    else (if low == 9 then Ping
-    else (if low == 10 then Pong else Reserved)))))
+    if low == opcode_number Continuation then Continuation
+    else (if low == opcode_number (Begins Text) then Begins Text
+    else (if low == opcode_number (Begins Binary) then Begins Binary
+    else (if low == opcode_number Close then Close
+    else (if low == opcode_number Ping then Ping
+    else (if low == opcode_number Pong then Pong else Reserved)))))
 
 -- MASK, the top bit of the second octet: the payload is masked, and a key stands before it
 abbrev pub is_masked : ℕ → Bool
@@ -88,16 +98,6 @@ opening (first ∷ []) = record { first = Some first; second = None; size = None
 opening (first ∷ second ∷ octets) = with_size first second (size_at second octets)
 
 -- ---- spelling
-
--- the number of an opcode; Reserved stands for several, 3 among them, and no frame that is sent has it
-abbrev pub opcode_number : Opcode → ℕ
-opcode_number Continuation = 0
-opcode_number (Begins Text) = 1
-opcode_number (Begins Binary) = 2
-opcode_number Close = 8
-opcode_number Ping = 9
-opcode_number Pong = 10
-opcode_number Reserved = 3
 
 -- the second octet and the octets behind it, by the shortest spelling of the length; `mask` is 128 for MASK, or 0
 abbrev pub size_octets : ℕ → ℕ → List ℕ

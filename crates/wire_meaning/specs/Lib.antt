@@ -4,4 +4,5 @@ pub mod Text
 pub mod Event
 pub mod Reading
 pub mod Answer
+pub mod Bounds
 pub mod View

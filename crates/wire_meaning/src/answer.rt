@@ -10,6 +10,7 @@ use crate::frame::{Opcode, opcode_number};
 use crate::reading::plain_reading;
 use std::alloc::{AllocError, Global};
 
+/// Puts the second octet of an unmasked frame, with the octets of the length behind it, behind those that are there.
 fn push_size(out: &mut Vec<u8>, size: usize) -> Result<(), AllocError>
     ensures { OnOk result (out.new.items ≡ out.old.items ++ size_octets 0 size) }
 {
@@ -27,6 +28,7 @@ fn push_size(out: &mut Vec<u8>, size: usize) -> Result<(), AllocError>
     Ok(())
 }
 
+/// Puts an unmasked frame with FIN 1 behind the octets that are there.
 fn push_frame(out: &mut Vec<u8>, opcode: Opcode, payload: &[u8]) -> Result<(), AllocError>
     ensures { OnOk result (out.new.items ≡ out.old.items ++ frame true opcode payload.now) }
 {
@@ -36,6 +38,7 @@ fn push_frame(out: &mut Vec<u8>, opcode: Opcode, payload: &[u8]) -> Result<(), A
     Ok(())
 }
 
+/// Puts a close frame with this code, an empty one for 1005, behind the octets that are there.
 fn push_close(out: &mut Vec<u8>, code: u16) -> Result<(), AllocError>
     ensures { OnOk result (out.new.items ≡ out.old.items ++ spelled (close_item code)) }
 {
@@ -45,6 +48,7 @@ fn push_close(out: &mut Vec<u8>, code: u16) -> Result<(), AllocError>
     push_frame(out, Opcode::Close, &code.to_be_bytes())
 }
 
+/// Puts the frames that answer an event behind the octets that are there.
 fn push_answers(out: &mut Vec<u8>, event: &OwnedEvent) -> Result<(), AllocError>
     ensures { OnOk result (out.new.items ≡ out.old.items ++ all_spelled (answers (event_view event.now))) }
 {

@@ -28,14 +28,18 @@ pub enum OwnedEvent {
     Failed(u16),
 }
 
-/// Whether a close frame may carry this code.
+/// Whether a close frame may carry this code: 1000 to 1003, 1007 to 1014 and 3000 to 4999.
+///
+/// These are the codes defined for use in a frame, and those for libraries and private use (RFC 6455, section 7.4). The
+/// standard forbids 1005, 1006 and 1015 there and reserves 1004. That codes which nobody has defined yet, as 1016 to 2999,
+/// are refused too is the server's choice.
 pub fn is_sendable(code: u16) -> bool
     ensures { result ≡ is_sendable code }
 {
     matches!(code, 1000..=1003 | 1007..=1014 | 3000..=4999)
 }
 
-/// Whether the octets are UTF-8.
+/// Whether the octets are UTF-8, as a text and the reason of a close have to be (RFC 6455, section 8.1).
 #[tactic(auto, using(crate::proofs::TextLemmas::utf8_tests))]
 pub fn is_utf8(octets: &[u8]) -> bool
     ensures { result ≡ is_utf8 octets.now }

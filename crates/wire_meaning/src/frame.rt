@@ -24,6 +24,19 @@ pub enum Opcode {
 ghost use Rattle.wire_meaning.specs.Frame.{is_final, has_reserved_bit, opcode_of, is_masked, seven_bits, opcode_number};
 ghost use Rattle.wire_meaning.specs.Reading.{is_reserved, is_control, is_data, is_text};
 
+// The numbers of the opcodes that have a meaning (RFC 6455, section 11.8).
+const CONTINUATION: u8 = 0;
+
+const TEXT: u8 = 1;
+
+const BINARY: u8 = 2;
+
+const CLOSE: u8 = 8;
+
+const PING: u8 = 9;
+
+const PONG: u8 = 10;
+
 /// FIN is 1: the frame is the last fragment of its message.
 pub fn is_final(first: u8) -> bool
     ensures { result ≡ is_final first }
@@ -43,12 +56,12 @@ pub fn opcode_of(first: u8) -> Opcode
     ensures { result ≡ opcode_of first }
 {
     match first % 16 {
-        0 => Opcode::Continuation,
-        1 => Opcode::Begins(Kind::Text),
-        2 => Opcode::Begins(Kind::Binary),
-        8 => Opcode::Close,
-        9 => Opcode::Ping,
-        10 => Opcode::Pong,
+        CONTINUATION => Opcode::Continuation,
+        TEXT => Opcode::Begins(Kind::Text),
+        BINARY => Opcode::Begins(Kind::Binary),
+        CLOSE => Opcode::Close,
+        PING => Opcode::Ping,
+        PONG => Opcode::Pong,
         _ => Opcode::Reserved,
     }
 }
@@ -109,17 +122,18 @@ pub fn is_text(kind: Kind) -> bool
     }
 }
 
-/// The number by which the opcode is written; for `Reserved`, which is never sent, 3.
+/// The number of the opcode, as the low four bits of a frame's first octet have it (RFC 6455, section 11.8); for `Reserved`,
+/// which is never sent, 3.
 pub fn opcode_number(opcode: Opcode) -> u8
     ensures value { result ≡ opcode_number opcode }
 {
     match opcode {
-        Opcode::Continuation => 0,
-        Opcode::Begins(Kind::Text) => 1,
-        Opcode::Begins(Kind::Binary) => 2,
-        Opcode::Close => 8,
-        Opcode::Ping => 9,
-        Opcode::Pong => 10,
+        Opcode::Continuation => CONTINUATION,
+        Opcode::Begins(Kind::Text) => TEXT,
+        Opcode::Begins(Kind::Binary) => BINARY,
+        Opcode::Close => CLOSE,
+        Opcode::Ping => PING,
+        Opcode::Pong => PONG,
         Opcode::Reserved => 3,
     }
 }

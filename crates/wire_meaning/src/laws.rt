@@ -1,14 +1,16 @@
-//! Laws of the definitions. Each function says one, and does nothing.
+//! Laws of the definitions. Each function has an empty body, and its contract is a law.
 
-ghost use Rattle.std.specs.Prelude.{◌≡◌, ◌↔◌, ℕ, ◌+◌, ◌%◌, ◌^◌, ◌<◌, List, [], ◌∷◌, ◌++◌, length, true, if◌then◌else◌, IsTrue, IsUtf8, Option, slice_get, slice_index, bit_xor, map};
+ghost use Rattle.std.specs.Prelude.{◌≡◌, ◌↔◌, ℕ, ◌+◌, ◌%◌, ◌^◌, ◌<◌, ◌≤◌, Bool, List, [], ◌∷◌, ◌++◌, length, true, if◌then◌else◌, IsTrue, IsUtf8, Option, slice_get, slice_index, bit_xor, map};
 ghost use Rattle.std.specs.Int.{w16, to_be_bytes};
 ghost use Rattle.wire_meaning.specs.Mask.{unmasked};
 ghost use Rattle.wire_meaning.specs.Frame.{masked_frame};
 ghost use Rattle.wire_meaning.specs.Text.{is_text_front};
-ghost use Rattle.wire_meaning.specs.Event.{Event, closed, closing, is_sendable, is_last};
+ghost use Rattle.wire_meaning.specs.Event.{Event, message, ping, pong, closed, failed, closing, is_sendable, is_last};
+ghost use Rattle.wire_meaning.specs.Bounds.{IsClose, is_failure};
 ghost use Rattle.wire_meaning.specs.Reading.{Begun, front_at, frame_front, events_from, reads, reading, IsAllowed};
 ghost use Rattle.wire_meaning.specs.Answer.{Sent, sent_octets, event_of, KeepsRules};
-ghost use Rattle.std.specs.Prelude.{Bool};
+ghost use Rattle.ws_kinds.specs.declared.kind.Kind.{Kind};
+ghost use Rattle.ws_kinds.specs.declared.kind.Kind.TheVariants.{Text};
 ghost use Rattle.wire_meaning.specs.declared.frame.Opcode.{Opcode};
 
 /// Octet i is XORed with the key's octet at its place modulo 4, and masking twice changes nothing (RFC 6455, section
@@ -41,6 +43,23 @@ pub fn fronts()
 pub fn nothing_follows()
     ensures { (max : ℕ) (octets : List ℕ) (before after : List Event) (event : Event) →
         reading max octets ≡ before ++ event ∷ after → IsTrue (is_last event) → after ≡ [] }
+{}
+
+/// What the events of a reading can be (RFC 6455, sections 5.5, 5.6 and 7.4.1).
+///
+/// A message has at most `max` octets, and a text is UTF-8. A ping or a pong has at most 125. A close says 1005 and no reason,
+/// or a code that may be sent and a UTF-8 reason of at most 123 octets. A failure has the code 1002, 1007 or 1009.
+pub fn event_bounds()
+    ensures messages { (max : ℕ) (octets : List ℕ) (before after : List Event) (kind : Kind) (body : List ℕ) →
+        reading max octets ≡ before ++ message kind body ∷ after → (length body ≤ max) × (kind ≡ Text → IsUtf8 body) }
+    ensures pings { (max : ℕ) (octets : List ℕ) (before after : List Event) (payload : List ℕ) →
+        reading max octets ≡ before ++ ping payload ∷ after → length payload ≤ 125 }
+    ensures pongs { (max : ℕ) (octets : List ℕ) (before after : List Event) (payload : List ℕ) →
+        reading max octets ≡ before ++ pong payload ∷ after → length payload ≤ 125 }
+    ensures closes { (max : ℕ) (octets : List ℕ) (before after : List Event) (code : ℕ) (reason : List ℕ) →
+        reading max octets ≡ before ++ closed code reason ∷ after → IsClose code reason }
+    ensures failures { (max : ℕ) (octets : List ℕ) (before after : List Event) (code : ℕ) →
+        reading max octets ≡ before ++ failed code ∷ after → IsTrue (is_failure code) }
 {}
 
 /// A whole masked frame that keeps the rules, a fragment or not, gives what its opcode and payload say, and what

@@ -24,6 +24,7 @@ pub struct Opening<'a> {
     pub rest: &'a [u8],
 }
 
+/// So many octets and what follows them, where all of them are there.
 fn octets_at(count: usize, octets: &[u8]) -> Option<(&[u8], &[u8])>
     ensures { option_map (λ p. (p.0.now, p.1.now)) result ≡ octets_at count octets.now }
 {
@@ -33,49 +34,43 @@ fn octets_at(count: usize, octets: &[u8]) -> Option<(&[u8], &[u8])>
     Some(octets.split_at(count))
 }
 
+/// A number of 2 octets and what follows it, where both are there.
 fn u16_at(octets: &[u8]) -> Option<(u64, &[u8])>
     ensures { option_map (λ p. (p.0, p.1.now)) result ≡ number_at w16 octets.now }
 {
-    if octets.len() < 2 {
-        return None;
-    }
-    let (front, rest) = octets.split_at(2);
-    let number = u16::from_be_bytes([front[0], front[1]]);
-    Some((u64::from(number), rest))
+    let (front, rest) = octets.split_first_chunk::<2>()?;
+    Some((u64::from(u16::from_be_bytes(*front)), rest))
 }
 
+/// A number of 8 octets and what follows it, where all of them are there.
 fn u64_at(octets: &[u8]) -> Option<(u64, &[u8])>
     ensures { option_map (λ p. (p.0, p.1.now)) result ≡ number_at w64 octets.now }
 {
-    if octets.len() < 8 {
-        return None;
-    }
-    let (front, rest) = octets.split_at(8);
-    let number = u64::from_be_bytes([
-        front[0], front[1], front[2], front[3], front[4], front[5], front[6], front[7],
-    ]);
-    Some((number, rest))
+    let (front, rest) = octets.split_first_chunk::<8>()?;
+    Some((u64::from_be_bytes(*front), rest))
 }
 
-fn size_at(second: u8, octets: &[u8]) -> Option<(u64, &[u8])>
+/// The length of a frame's payload, in octets, and what follows it, by the frame's second octet and the octets behind that
+/// (RFC 6455, section 5.2). None where an octet of the length is missing. A length that is spelled longer than needed is
+/// taken, and so is one whose top bit is 1.
+pub fn size_at(second: u8, octets: &[u8]) -> Option<(u64, &[u8])>
     ensures { option_map (λ p. (p.0, p.1.now)) result ≡ size_at second octets.now }
 {
-    let seven = seven_bits(second);
-    if seven == 126 {
-        return u16_at(octets);
+    match seven_bits(second) {
+        126 => u16_at(octets),
+        127 => u64_at(octets),
+        seven => Some((u64::from(seven), octets)),
     }
-    if seven == 127 {
-        return u64_at(octets);
-    }
-    Some((u64::from(seven), octets))
 }
 
+/// The masking key and what follows it, where it is whole: 4 octets where MASK is 1, and none where it is 0.
 fn key_at(second: u8, octets: &[u8]) -> Option<(&[u8], &[u8])>
     ensures { option_map (λ p. (p.0.now, p.1.now)) result ≡ key_at second octets.now }
 {
     octets_at(if is_masked(second) { 4 } else { 0 }, octets)
 }
 
+/// The frame whose header up to the length is this, with the octets behind it.
 fn with_key(first: u8, second: u8, size: u64, octets: &[u8]) -> Opening<'_>
     ensures { opening_view result ≡ with_key first second size (key_at second octets.now) }
 {
@@ -103,6 +98,7 @@ fn with_key(first: u8, second: u8, size: u64, octets: &[u8]) -> Opening<'_>
     }
 }
 
+/// The frame whose first two octets are these, with the octets behind them.
 fn with_size(first: u8, second: u8, octets: &[u8]) -> Opening<'_>
     ensures { opening_view result ≡ with_size first second (size_at second octets.now) }
 {

@@ -36,6 +36,7 @@ pub enum Front<'a> {
     Gives(OwnedEvent, Option<Begun>, &'a [u8]),
 }
 
+/// A continuation where no message is open, or a text or binary frame where one is.
 fn is_out_of_turn(begun: &Option<Begun>, opcode: Opcode) -> bool
     ensures { result ≡ is_out_of_turn (option_map begun_view begun.now) opcode }
 {
@@ -46,6 +47,7 @@ fn is_out_of_turn(begun: &Option<Begun>, opcode: Opcode) -> bool
     }
 }
 
+/// The first octet is refused.
 fn refuses_first(begun: &Option<Begun>, first: u8) -> bool
     ensures { result ≡ refuses_first (option_map begun_view begun.now) first }
 {
@@ -56,12 +58,14 @@ fn refuses_first(begun: &Option<Begun>, first: u8) -> bool
         || is_out_of_turn(begun, opcode)
 }
 
+/// The second octet is refused.
 fn refuses_second(first: u8, second: u8) -> bool
     ensures { result ≡ refuses_second first second }
 {
     !is_masked(second) || is_control(opcode_of(first)) && seven_bits(second) >= 126
 }
 
+/// How many octets of the open message came, 0 where none is open.
 fn begun_len(begun: &Option<Begun>) -> usize
     ensures { result ≡ length (begun_octets (option_map begun_view begun.now)) }
 {
@@ -71,6 +75,7 @@ fn begun_len(begun: &Option<Begun>) -> usize
     }
 }
 
+/// With a frame of this size the message would have more than `max_message` octets.
 fn is_over(max_message: u32, begun: &Option<Begun>, first: u8, size: u64) -> bool
     ensures { result ≡ is_over max_message (option_map begun_view begun.now) first size }
 {
@@ -78,6 +83,7 @@ fn is_over(max_message: u32, begun: &Option<Begun>, first: u8, size: u64) -> boo
         && u128::from(max_message) < begun_len(begun) as u128 + u128::from(size)
 }
 
+/// The first octet is there, and is refused.
 fn is_first_refused(begun: &Option<Begun>, opening: &Opening<'_>) -> bool
     ensures { result ≡ part_is opening.now.first (refuses_first (option_map begun_view begun.now)) }
 {
@@ -87,6 +93,7 @@ fn is_first_refused(begun: &Option<Begun>, opening: &Opening<'_>) -> bool
     }
 }
 
+/// The first two octets are there, and the second is refused.
 fn is_second_refused(opening: &Opening<'_>) -> bool
     ensures { result ≡ parts_are opening.now.first opening.now.second refuses_second }
 {
@@ -96,6 +103,7 @@ fn is_second_refused(opening: &Opening<'_>) -> bool
     }
 }
 
+/// The length is there, and its top bit is 1.
 fn has_top_bit(opening: &Opening<'_>) -> bool
     ensures { result ≡ part_is opening.now.size (nat_le (2 ^ 63)) }
 {
@@ -105,6 +113,7 @@ fn has_top_bit(opening: &Opening<'_>) -> bool
     }
 }
 
+/// The length is there, and the message would have more than `max_message` octets.
 fn is_size_over(max_message: u32, begun: &Option<Begun>, opening: &Opening<'_>) -> bool
     ensures { result ≡ parts_are opening.now.first opening.now.size (is_over max_message (option_map begun_view begun.now)) }
 {
@@ -127,6 +136,7 @@ pub fn breach(max_message: u32, begun: &Option<Begun>, opening: &Opening<'_>) ->
     None
 }
 
+/// A data frame with which the message becomes `all`; `is_whole` says that its payload is all there.
 fn data_front<'a>(is_last: bool, is_whole: bool, all: Begun, rest: &'a [u8]) -> Front<'a>
     ensures { front_view result ≡ data_front is_last is_whole all.kind all.octets.items rest.now }
 {
@@ -145,6 +155,7 @@ fn data_front<'a>(is_last: bool, is_whole: bool, all: Begun, rest: &'a [u8]) -> 
     Front::Gives(OwnedEvent::Message(all.kind, all.octets), None, rest)
 }
 
+/// A copy of the open message. An error is want of memory.
 fn begun_copy(alloc: Global, begun: &Option<Begun>) -> Result<Option<Begun>, AllocError>
     ensures { IfOk result (λ copy. option_map begun_view copy ≡ option_map begun_view begun.now) }
 {
@@ -157,6 +168,7 @@ fn begun_copy(alloc: Global, begun: &Option<Begun>) -> Result<Option<Begun>, All
     }
 }
 
+/// The frame with this opcode and these payload octets, unmasked. An error is want of memory.
 fn frame_front<'a>(
     alloc: Global,
     begun: &Option<Begun>,
@@ -202,6 +214,7 @@ fn frame_front<'a>(
     }
 }
 
+/// The frame whose header is all there; `More` without it. An error is want of memory.
 fn body_front<'a>(
     alloc: Global,
     begun: &Option<Begun>,

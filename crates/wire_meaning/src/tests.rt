@@ -13,47 +13,73 @@ const NOT_UTF8: &[u8] = b"\x88\x02\x03\xef";
 
 const TOO_BIG: &[u8] = b"\x88\x02\x03\xf1";
 
-// What an echo writes for these octets. "Hello" and its key are those of RFC 6455, section 5.7.
-const ECHOED: [(&[u8], &[u8]); 15] = [
+// What an echo writes for these octets, and under these limits. "Hello" and its key are those of RFC 6455, section 5.7.
+const ECHOED: [(u32, &[u8], &[u8]); 23] = [
     // a masked text in one frame, and in two
     (
+        MAX,
         b"\x81\x85\x37\xfa\x21\x3d\x7f\x9f\x4d\x51\x58",
         b"\x81\x05Hello",
     ),
-    (b"\x01\x83\0\0\0\0Hel\x80\x82\0\0\0\0lo", b"\x81\x05Hello"),
+    (
+        MAX,
+        b"\x01\x83\0\0\0\0Hel\x80\x82\0\0\0\0lo",
+        b"\x81\x05Hello",
+    ),
     // each fragment is masked from its key's first octet on
     (
+        MAX,
         b"\x01\x83\x37\xfa\x21\x3d\x7f\x9f\x4d\x80\x82\x37\xfa\x21\x3d\x5b\x95",
         b"\x81\x05Hello",
     ),
     // a ping with this body, and the masked pong that answers it
     (
+        MAX,
         b"\x89\x85\x37\xfa\x21\x3d\x7f\x9f\x4d\x51\x58",
         b"\x8a\x05Hello",
     ),
-    (b"\x8a\x85\x37\xfa\x21\x3d\x7f\x9f\x4d\x51\x58", b""),
+    (MAX, b"\x8a\x85\x37\xfa\x21\x3d\x7f\x9f\x4d\x51\x58", b""),
     // nothing, an empty text, and a binary message that is no text
-    (b"", b""),
-    (b"\x81\x80\0\0\0\0", b"\x81\x00"),
-    (b"\x82\x81\x01\x02\x03\x04\xff", b"\x82\x01\xfe"),
+    (MAX, b"", b""),
+    (MAX, b"\x81\x80\0\0\0\0", b"\x81\x00"),
+    (MAX, b"\x82\x81\x01\x02\x03\x04\xff", b"\x82\x01\xfe"),
     // lengths that are spelled longer than needed
-    (b"\x82\xfe\x00\x01\0\0\0\0\xff", b"\x82\x01\xff"),
-    (b"\x81\xff\0\0\0\0\0\0\0\x05\0\0\0\0Hello", b"\x81\x05Hello"),
+    (MAX, b"\x82\xfe\x00\x01\0\0\0\0\xff", b"\x82\x01\xff"),
+    (
+        MAX,
+        b"\x81\xff\0\0\0\0\0\0\0\x05\0\0\0\0Hello",
+        b"\x81\x05Hello",
+    ),
     // a ping between the fragments of a text, within a character
     (
+        MAX,
         b"\x01\x81\0\0\0\0\xe2\x89\x80\0\0\0\0\x80\x82\0\0\0\0\x82\xac",
         b"\x8a\x00\x81\x03\xe2\x82\xac",
     ),
     // a header that has not all come, a payload that has not, and a message that has not
-    (b"\x81\xfe\x01", b""),
-    (b"\x81\x85\x37\xfa\x21\x3d\x7f", b""),
-    (b"\x01\x83\0\0\0\0Hel\x00\x82\0\0\0\0lo", b""),
+    (MAX, b"\x81\xfe\x01", b""),
+    (MAX, b"\x81\x85\x37\xfa\x21\x3d\x7f", b""),
+    (MAX, b"\x01\x83\0\0\0\0Hel\x00\x82\0\0\0\0lo", b""),
     // an empty first fragment counts as an open message
-    (b"\x01\x80\0\0\0\0\x80\x81\0\0\0\0a", b"\x81\x01a"),
+    (MAX, b"\x01\x80\0\0\0\0\x80\x81\0\0\0\0a", b"\x81\x01a"),
+    // limits
+    (0, b"\x82\x80\0\0\0\0", b"\x82\x00"),
+    (0, b"\x82\x81", TOO_BIG),
+    (5, b"\x81\x85\0\0\0\0Hello", b"\x81\x05Hello"),
+    (5, b"\x81\x86", TOO_BIG),
+    // the fragments that came count, and control frames do not
+    (
+        5,
+        b"\x01\x83\0\0\0\0Hel\x80\x82\0\0\0\0lo",
+        b"\x81\x05Hello",
+    ),
+    (5, b"\x01\x83\0\0\0\0Hel\x80\x83", TOO_BIG),
+    (5, b"\x89\x86\0\0\0\0Hello!", b"\x8a\x06Hello!"),
+    (65536, b"\x82\xff\0\0\0\0\x00\x01\x00\x01", TOO_BIG),
 ];
 
-// What is refused at its last octet, and not before it.
-const REFUSED: [(&[u8], &[u8]); 41] = [
+// What is answered at its last octet, and not before it: what is refused, and closes.
+const LAST_OCTETS: [(&[u8], &[u8]); 59] = [
     // a reserved bit
     (b"\xc1", PROTOCOL_ERROR),
     (b"\xa1", PROTOCOL_ERROR),
@@ -108,11 +134,7 @@ const REFUSED: [(&[u8], &[u8]); 41] = [
     (b"\x01\x81\0\0\0\0\xe2\x80\x80\0\0\0\0", NOT_UTF8),
     // a ping between the fragments does not close the message
     (b"\x01\x80\0\0\0\0\x8a\x80\0\0\0\0\x81", PROTOCOL_ERROR),
-];
-
-// Close frames, and the close frames that answer them.
-const CLOSES: [(&[u8], &[u8]); 18] = [
-    // no payload, and one octet
+    // close frames with no payload, and with one octet
     (b"\x88\x80\0\0\0\0", b"\x88\x00"),
     (b"\x88\x81\0\0\0\0\x03", PROTOCOL_ERROR),
     // codes that may not be sent: 999, 1004, 1005, 1006, 1015, 2999, 5000, whatever follows
@@ -137,23 +159,7 @@ const CLOSES: [(&[u8], &[u8]); 18] = [
     (b"\x01\x81\0\0\0\0a\x88\x80\0\0\0\0", b"\x88\x00"),
 ];
 
-// What an echo under these limits writes.
-const LIMITS: [(u32, &[u8], &[u8]); 8] = [
-    (0, b"\x82\x80\0\0\0\0", b"\x82\x00"),
-    (0, b"\x82\x81", TOO_BIG),
-    (5, b"\x81\x85\0\0\0\0Hello", b"\x81\x05Hello"),
-    (5, b"\x81\x86", TOO_BIG),
-    // the fragments that came count, and control frames do not
-    (
-        5,
-        b"\x01\x83\0\0\0\0Hel\x80\x82\0\0\0\0lo",
-        b"\x81\x05Hello",
-    ),
-    (5, b"\x01\x83\0\0\0\0Hel\x80\x83", TOO_BIG),
-    (5, b"\x89\x86\0\0\0\0Hello!", b"\x8a\x06Hello!"),
-    (65536, b"\x82\xff\0\0\0\0\x00\x01\x00\x01", TOO_BIG),
-];
-
+/// An echo of these octets writes this.
 fn echo_is(alloc: Global, max_message: u32, octets: &[u8], wanted: &[u8]) -> bool {
     match plain_echo(alloc, max_message, octets) {
         Ok(out) => out.as_slice() == wanted,
@@ -161,7 +167,7 @@ fn echo_is(alloc: Global, max_message: u32, octets: &[u8], wanted: &[u8]) -> boo
     }
 }
 
-// The last octet is answered so, and nothing before it is answered.
+/// The last octet is answered so, and nothing before it is answered.
 fn last_is_answered(alloc: Global, octets: &[u8], wanted: &[u8]) -> bool {
     match octets.split_last() {
         Some((_, front)) => {
@@ -173,36 +179,18 @@ fn last_is_answered(alloc: Global, octets: &[u8], wanted: &[u8]) -> bool {
 
 #[test]
 fn echoes(rt: HostRuntime) {
-    for (octets, wanted) in ECHOED {
-        assert!(rt; echo_is(rt.alloc(), MAX, octets, wanted), "{octets:?}");
-    }
-}
-
-#[test]
-fn refused_at_the_last_octet(rt: HostRuntime) {
-    for (octets, wanted) in REFUSED {
-        assert!(rt; last_is_answered(rt.alloc(), octets, wanted), "{octets:?}");
-    }
-}
-
-#[test]
-fn closes_are_answered(rt: HostRuntime) {
-    for (octets, wanted) in CLOSES {
-        assert!(rt; last_is_answered(rt.alloc(), octets, wanted), "{octets:?}");
-    }
-}
-
-#[test]
-fn limits(rt: HostRuntime) {
-    for (max_message, octets, wanted) in LIMITS {
+    for (max_message, octets, wanted) in ECHOED {
         assert!(rt;
             echo_is(rt.alloc(), max_message, octets, wanted),
             "{octets:?}"
         );
     }
+    for (octets, wanted) in LAST_OCTETS {
+        assert!(rt; last_is_answered(rt.alloc(), octets, wanted), "{octets:?}");
+    }
 }
 
-// The echo of a masked binary message of so many zeros begins so, and has all of them.
+/// The echo of a masked binary message of so many zeros begins so, and has all of them.
 fn long_echo(alloc: Global, head: &[u8], size: usize, wanted: &[u8]) -> Result<bool, AllocError> {
     let mut octets = Vec::from_slice(alloc, head)?;
     octets.extend_from_slice(&[0, 0, 0, 0])?;
@@ -240,7 +228,7 @@ fn lengths(rt: HostRuntime) {
 const ALL_EVENTS: &[u8] =
     b"\x81\x82\0\0\0\0hi\x82\x81\0\0\0\0\xff\x89\x81\0\0\0\0\x01\x8a\x80\0\0\0\0\x88\x85\0\0\0\0\x03\xe8bye\x81\x80\0\0\0\0";
 
-// The event says this: its octets, and the code of a close or a failure.
+/// The event says this: its octets, and the code of a close or a failure.
 fn says(event: &OwnedEvent, kind: Option<Kind>, code: u16, octets: &[u8]) -> bool {
     match event {
         OwnedEvent::Message(told, body) => kind == Some(*told) && body.as_slice() == octets,
@@ -248,22 +236,6 @@ fn says(event: &OwnedEvent, kind: Option<Kind>, code: u16, octets: &[u8]) -> boo
         OwnedEvent::Close(told, reason) => *told == code && reason.as_slice() == octets,
         OwnedEvent::Failed(told) => *told == code && octets.is_empty(),
     }
-}
-
-#[test]
-fn events(rt: HostRuntime) -> Result<(), Fail> {
-    let events = plain_reading(rt.alloc(), MAX, ALL_EVENTS)
-        .ok()
-        .ok_or("memory")?;
-    let [text, binary, ping, pong, close] = events.as_slice() else {
-        return Err("five events".into());
-    };
-    assert!(rt; says(text, Some(Kind::Text), 0, b"hi"));
-    assert!(rt; says(binary, Some(Kind::Binary), 0, b"\xff"));
-    assert!(rt; matches!(ping, OwnedEvent::Ping(_)) && says(ping, None, 0, b"\x01"));
-    assert!(rt; matches!(pong, OwnedEvent::Pong(_)) && says(pong, None, 0, b""));
-    assert!(rt; matches!(close, OwnedEvent::Close(_, _)) && says(close, None, 1000, b"bye"));
-    Ok(())
 }
 
 // The last event of these octets, which is a close or a failure.
@@ -279,7 +251,18 @@ const LAST: [(&[u8], u16, bool); 4] = [
 ];
 
 #[test]
-fn nothing_is_read_after_the_last(rt: HostRuntime) -> Result<(), Fail> {
+fn events(rt: HostRuntime) -> Result<(), Fail> {
+    let events = plain_reading(rt.alloc(), MAX, ALL_EVENTS)
+        .ok()
+        .ok_or("memory")?;
+    let [text, binary, ping, pong, close] = events.as_slice() else {
+        return Err("five events".into());
+    };
+    assert!(rt; says(text, Some(Kind::Text), 0, b"hi"));
+    assert!(rt; says(binary, Some(Kind::Binary), 0, b"\xff"));
+    assert!(rt; matches!(ping, OwnedEvent::Ping(_)) && says(ping, None, 0, b"\x01"));
+    assert!(rt; matches!(pong, OwnedEvent::Pong(_)) && says(pong, None, 0, b""));
+    assert!(rt; matches!(close, OwnedEvent::Close(_, _)) && says(close, None, 1000, b"bye"));
     for (octets, code, is_failure) in LAST {
         let events = plain_reading(rt.alloc(), MAX, octets).ok().ok_or("memory")?;
         let last = events.last().ok_or("an event")?;

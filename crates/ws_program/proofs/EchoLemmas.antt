@@ -14,13 +14,14 @@ use Rattle.wire_meaning.proofs.LastLemmas as last
 use Rattle.frame_reader.specs.declared.reader.Reader.{Reader}
 use Rattle.frame_reader.specs.Reader as readers
 use Rattle.frame_reader.specs.Reader.{ahead, room_of, raw_of}
-use Rattle.ws_program.specs.Answers.{AreShort, answers_to}
+use Rattle.wire_meaning.specs.Bounds.{AreShort}
+use Rattle.ws_program.specs.Answers.{answers_to}
 use Rattle.ws_program.specs.declared.status.Status.{Status}
 use Rattle.ws_program.specs.declared.status.Status.TheVariants.{Done, Usage, Refused, ReadFault, WriteFault, OutOfMemory}
 use Rattle.schedule_text.specs.declared.fault.Fault.TheVariants.{TooLong}
 use Rattle.ws_program.specs.Echo.{has_ended, EchoesFront, EndsDone, EndsTooLong, ReadsNoFurther, EndsPast}
 use Rattle.ws_program.proofs.EventLemmas.{answers_to-append, short_rest, some_of_both, none_of_both}
-use Rattle.ws_program.proofs.ShortLemmas.{reading_short}
+use Rattle.wire_meaning.proofs.BoundLemmas.{reading_short}
 
 -- these octets came, and all that they tell was told
 pub record Stands (max : ℕ) (came : List ℕ) (reader : Reader) : Type 0 where
@@ -180,10 +181,10 @@ echo_start max w = subst (Appends w w) (sym (ap answers_to (nothing_read max))) 
 kept : (l m k : Option (List ℕ)) (came : List ℕ) → Consumes l m came → k ≡ m → Consumes l k came
 kept l m k came took same = subst (λ o. Consumes l o came) (sym same) took
 
-pub past_too_long : (result : Status) (max : ℕ) (came : List ℕ) (reader : Reader) (l m k w v : Option (List ℕ)) → EndsPast result m k → result ≡ Refused 0 TooLong
+pub past_too_long : (result : Status) (max : ℕ) (came : List ℕ) (reader : Reader) (l m k w v : Option (List ℕ)) (f f' : ℕ) → EndsPast result m k f f' → result ≡ Refused 0 TooLong
     → Stands max came reader → Consumes l m came → Appends w v (echoed max came) → length came ≡ 67108864 → EndsTooLong max l k w v
-past_too_long result max came reader l m k w v ends is stands took wrote full =
-    let (others, took', some, short, line, rule) = subst (λ s. EndsPast s m k) is ends in
+past_too_long result max came reader l m k w v f f' ends is stands took wrote full =
+    let (others, took', some, short, line, rule, same) = subst (λ s. EndsPast s m k f f') is ends in
     (came, others, Consumes-trans l m k came others took took', wrote, full, stands.not_over, some)
 
 pub unmoved_no_further : (max count : ℕ) (came : List ℕ) (reader : Reader) (l m k : Option (List ℕ)) → Stands max came reader → Consumes l m came → k ≡ m → length came + count ≡ 67108864
@@ -191,12 +192,12 @@ pub unmoved_no_further : (max count : ℕ) (came : List ℕ) (reader : Reader) (
 unmoved_no_further max count came reader l m k stands took same sum =
     (came, [], subst (Consumes l k) (sym (append-nil came)) (kept l m k came took same), stands.not_over, omega arith, omega arith)
 
-pub past_no_further : (result : Status) (max : ℕ) (came : List ℕ) (reader : Reader) (l m k : Option (List ℕ)) → EndsPast result m k → Stands max came reader → Consumes l m came
+pub past_no_further : (result : Status) (max : ℕ) (came : List ℕ) (reader : Reader) (l m k : Option (List ℕ)) (f f' : ℕ) → EndsPast result m k f f' → Stands max came reader → Consumes l m came
     → length came ≡ 67108864 → ReadsNoFurther max l k
-past_no_further Done max came reader l m k (same, end) stands took full = unmoved_no_further max 0 came reader l m k stands took same (omega arith)
-past_no_further Usage max came reader l m k ends stands took full = absurd ends
-past_no_further (Refused line fault) max came reader l m k (others, took', some, short, zero, rule) stands took full =
+past_no_further Done max came reader l m k f f' (same, end, unfailing) stands took full = unmoved_no_further max 0 came reader l m k stands took same (omega arith)
+past_no_further Usage max came reader l m k f f' ends stands took full = absurd ends
+past_no_further (Refused line fault) max came reader l m k f f' (others, took', some, short, zero, rule, same) stands took full =
     (came, others, Consumes-trans l m k came others took took', stands.not_over, omega arith, omega arith)
-past_no_further ReadFault max came reader l m k same stands took full = unmoved_no_further max 0 came reader l m k stands took same (omega arith)
-past_no_further WriteFault max came reader l m k ends stands took full = absurd ends
-past_no_further OutOfMemory max came reader l m k ends stands took full = absurd ends
+past_no_further ReadFault max came reader l m k f f' (same, cause) stands took full = unmoved_no_further max 0 came reader l m k stands took same (omega arith)
+past_no_further WriteFault max came reader l m k f f' ends stands took full = absurd ends
+past_no_further OutOfMemory max came reader l m k f f' ends stands took full = absurd ends

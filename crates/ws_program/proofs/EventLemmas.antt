@@ -16,7 +16,8 @@ use Rattle.frame_reader.specs.Step as steps
 use Rattle.frame_reader.specs.Step.{events_of, HasStepped}
 use Rattle.ws_program.specs.declared.answers.Answered.{Answered}
 use Rattle.ws_program.specs.declared.answers.Answered.TheVariants as answered
-use Rattle.ws_program.specs.Answers.{Passes, AreShort, Answers, GoesOn, AnswersStep, AnswersNext, AnswersAll, answers_to}
+use Rattle.wire_meaning.specs.Bounds.{AreShort}
+use Rattle.ws_program.specs.Answers.{Passes, Answers, GoesOn, AnswersStep, AnswersNext, AnswersAll, answers_to}
 use Rattle.ws_program.proofs.PassLemmas.{passes_nothing, passes_then, front_of_more, front_behind}
 
 pub answers_to-append : (xs ys : List Event) → answers_to (xs ++ ys) ≡ answers_to xs ++ answers_to ys

@@ -1,9 +1,12 @@
 pub mod PassLemmas
 pub mod StepLemmas
-pub mod ShortLemmas
 pub mod EventLemmas
 pub mod EchoLemmas
 pub mod WordLemmas
 pub mod ReportLemmas
 pub mod ReplayLemmas
 pub mod RunLemmas
+pub mod FewLemmas
+pub mod StopLemmas
+pub mod EndLemmas
+pub mod ReplayedLemmas

@@ -1,16 +1,22 @@
 -- What was read of a text can be run.
-use Rattle.std.proofs.Common.{◌≡◌, ◌≤◌, ◌<◌, ◌+◌, ◌++◌, ◌&&◌, ℕ, List, [], ◌∷◌, Some, None, true, length, refl, ◌⊎◌, inl, inr, Option, append-nil, subst, ap, ◌∙◌, arith}
+use Rattle.std.proofs.Common.{◌≡◌, ◌≤◌, ◌<◌, ◌+◌, ◌++◌, ◌&&◌, ℕ, List, [], ◌∷◌, Some, None, true, length, refl, ◌⊎◌, inl, inr, Option, append-nil, subst, ap, ◌∙◌, arith, rules}
 use Rattle.std.specs.List.{list_all, AllByRecursion, flat_map}
 use Rattle.std.proofs.lemmas.List.{length-append}
-use Rattle.link_trait.specs.Schedule.{is_plain}
-use Rattle.link_trait.specs.declared.schedule.Act.{Act}
-use Rattle.link_trait.specs.declared.schedule.Act.TheVariants as act
+use Rattle.mem_net.specs.Schedule.{is_plain}
+use Rattle.link_trait.specs.declared.act.Act.{Act}
+use Rattle.link_trait.specs.declared.act.Act.TheVariants as act
 use Rattle.schedule_text.specs.Spelling.{spelled, header, HasLine}
 use Rattle.schedule_text.specs.Reading.{IsText, IsRefused}
 use Rattle.schedule_text.specs.declared.fault.Fault.{Fault}
 use Rattle.schedule_text.specs.declared.fault.Fault.TheVariants as fault
 use Rattle.std.specs.Io.KnownBytes.{Consumes, IsAtEnd}
-use Rattle.ws_program.specs.Replay.{CanRun}
+use Rattle.ws_kinds.specs.ConfigValue.{ConfigValue}
+use Rattle.link_trait.specs.Link.{TellsAlike}
+use Rattle.ws_program.specs.declared.status.Status.{Status}
+use Rattle.ws_program.specs.declared.status.Status.TheVariants.{Done, Usage, Refused, ReadFault, WriteFault, OutOfMemory}
+use Rattle.ws_program.specs.Replay.{CanRun, AnswersText, IsTaken, RefusesAs, ReplaysAll, ReplaysFront, IsRefusal, ReplayEnds}
+use Rattle.ws_program.specs.Streams.{Streams}
+use Rattle.ws_program.proofs.PassLemmas.{tells_alike_unmoved}
 
 -- a line has at least one octet
 spelled_some : (act : Act) → 0 < length (spelled act)
@@ -66,3 +72,44 @@ pub fault_of_all : (octets all : List ℕ) (left' : Option (List ℕ)) (line : �
     → IsRefused all line fault → IsRefused octets line fault
 fault_of_all octets all None line fault took ends refused = absurd took
 fault_of_all octets all (Some rest) line fault took ends refused = fault_of_rest octets rest all line fault took ends refused
+
+-- what was read is the text of a schedule where all that there is is one
+text_of_rest : (octets rest all : List ℕ) (acts : List Act) → all ≡ octets ++ rest → (rest ≡ []) ⊎ (1048576 < length octets) → IsText all acts → IsText octets acts
+text_of_rest octets rest all acts is (inl none) text =
+    let same : all ≡ octets = is ∙ ap (λ (l : List ℕ). octets ++ l) none ∙ append-nil octets in
+    subst (λ (l : List ℕ). IsText l acts) same text
+text_of_rest octets rest all acts is (inr long) text = absurd (too_long all (long_all octets rest all is long) text.short)
+
+pub text_of_all : (octets all : List ℕ) (left' : Option (List ℕ)) (acts : List Act) → Consumes (Some all) left' octets → IsAtEnd left' ⊎ (1048576 < length octets) → IsText all acts
+    → IsText octets acts
+text_of_all octets all None acts took ends text = absurd took
+text_of_all octets all (Some rest) acts took ends text = text_of_rest octets rest all acts took ends text
+
+-- ---- how a run ends whose text was read
+
+at_end : (octets : List ℕ) (acts : List Act) (left' : Option (List ℕ)) → IsText octets acts → IsAtEnd left' ⊎ (1048576 < length octets) → IsAtEnd left'
+at_end octets acts left' text (inl end) = end
+at_end octets acts left' text (inr long) = absurd (too_long octets long text.short)
+
+module _ (config : ConfigValue) (octets : List ℕ) (old new : Streams) (took : Consumes old.left new.left octets) (ends : IsAtEnd new.left ⊎ (1048576 < length octets))
+    (unfailing : new.read_faults ≡ old.read_faults) (source_tells : TellsAlike old.left new.left) where
+  pub text_ends : (status : Status) → AnswersText config octets status old.written new.written old.write_faults new.write_faults
+      → ((all : List ℕ) (acts : List Act) → old.left ≡ Some all → IsText all acts → IsTaken status)
+      → ((all : List ℕ) (line : ℕ) (fault : Fault) → old.left ≡ Some all → IsRefused all line fault → RefusesAs line fault status) → ReplayEnds config status old new
+  text_ends Done (acts, schedule, (text, reports, (wrote, alike, same))) every_text every_fault =
+      let all : ReplaysAll config old.left new.left old.written new.written =
+      (octets, text, took, at_end octets acts new.left schedule ends, record { acts = acts; schedule = schedule; reports = reports }, wrote) in
+      search rules
+  text_ends WriteFault (acts, schedule, (text, reports, fails)) every_text every_fault =
+      let front : ReplaysFront config old.left new.left old.written new.written =
+      (octets, text, took, at_end octets acts new.left schedule ends, record { acts = acts; schedule = schedule; reports = reports }, fails.written) in
+      search rules
+  text_ends (Refused line fault) (refused, unwritten, same) every_text every_fault =
+      let refusal : IsRefusal line fault old.left new.left = (octets, took, refused) in
+      let alike = tells_alike_unmoved old.written new.written unwritten in
+      search rules
+  text_ends OutOfMemory (unwritten, same) every_text every_fault =
+      let alike = tells_alike_unmoved old.written new.written unwritten in
+      search rules
+  text_ends Usage (acts, schedule, never) every_text every_fault = absurd never
+  text_ends ReadFault (acts, schedule, never) every_text every_fault = absurd never

@@ -18,7 +18,7 @@ use Rattle.run_kept.specs.Ends.{backlog_at}
 use Rattle.run_meaning.specs.Counts.{gather, accepted_by}
 use Rattle.run_meaning.proofs.Parts.{gather-append}
 use Rattle.run_meaning.proofs.Underway.{take_one}
-use Rattle.run_replayed.specs.Replayed.{links_of, all_link_lines}
+use Rattle.ws_program.specs.Replayed.{links_of, all_link_lines}
 use Rattle.ws_program.proofs.PassLemmas.{front_of_more}
 
 same_telling : (w : Option (List ℕ)) → TellsAlike w w

@@ -3,47 +3,46 @@ use Rattle.std.proofs.Common.{◌≡◌, ◌<◌, ◌≤◌, ◌+◌, ◌-◌, �
 use Rattle.std.specs.List.{count_by}
 use Rattle.std.proofs.lemmas.List.{length-append}
 use Rattle.ws_kinds.specs.ConfigValue.{ConfigValue}
-use Rattle.ws_kinds.specs.EventValue.{EventValue}
 use Rattle.ws_kinds.specs.NoteValue.{NoteValue}
-use Rattle.ws_kinds.specs.OrderValue.{OrderValue}
 use Rattle.ws_kinds.specs.Recorder.{RecorderState, told_by}
 use Rattle.link_trait.specs.declared.net.NetEvent.{NetEvent}
 use Rattle.link_trait.specs.declared.net.NetEvent.TheVariants as event
-use Rattle.link_trait.specs.declared.schedule.Act.{Act}
-use Rattle.link_trait.specs.Acts.{passes, arrivals, sent}
-use Rattle.link_trait.specs.LinkState.{new_link}
-use Rattle.link_trait.specs.MemNet.{MemNetState, FollowsSchedule, net_state, start_net, link_of}
+use Rattle.link_trait.specs.declared.act.Act.{Act}
+use Rattle.mem_net.specs.Acts.{passes, arrivals, sent}
+use Rattle.mem_net.specs.LinkState.{new_link}
+use Rattle.mem_net.specs.MemNet.{MemNetState, FollowsSchedule, net_state, start_net, link_of}
 use Rattle.route_table.specs.Table.{RouteTable}
 use Rattle.ws_kinds.specs.declared.note.Phase.TheVariants.{Head, Gone}
 use Rattle.run_meaning.specs.Echo.{echo_server, echo_said}
 use Rattle.run_meaning.specs.Replies.{AreReplies}
 use Rattle.hub_lines.specs.State.{HubState, server}
 use Rattle.hub_notes.proofs.BoolLemmas.{clash}
-use Rattle.hub_table.specs.Table.{IsTable, table_of}
+use Rattle.hub_notes.specs.Table.{IsTable, table_of}
 use Rattle.hub_lines.specs.Calls.{Settled}
 use Rattle.schedule_text.specs.Report.{report}
 use Rattle.run_kept.specs.Ends.{AreThere, backlog_at}
 use Rattle.run_kept.proofs.EndLemmas.{there_first}
-use Rattle.frame_reader.specs.declared.reader.Reader.{Reader}
 use Rattle.loop_runner.specs.Intakes.{intake_at}
 use Rattle.loop_runner.specs.declared.intakes.Intakes.{Intakes}
 use Rattle.loop_runner.proofs.RightLemmas.{kept_at_first}
 use Rattle.loop_runner.specs.declared.turns.Ran.TheVariants as ran
 use Rattle.loop_runner.specs.Turns.{Runs}
-use Rattle.loop_runner.specs.Keeps.{IsRight, IsSettled, EndsWithTurn, AreFew, KeptAll, AreViews, view_of}
-use Rattle.run_replayed.specs.Replayed.{IsReplayed, IsReport, links_of, is_turn_act}
-use Rattle.run_replayed.proofs.FewLemmas.{few_items}
-use Rattle.run_replayed.proofs.StopLemmas.{passes_few}
-use Rattle.run_replayed.proofs.EndLemmas.{ran_stopped, ran_never_spent, ran_never_failed}
-use Rattle.run_replayed.proofs.ReplayLemmas.{replay_all}
+use Rattle.loop_runner.specs.Keeps.{Beginning, IsRight, IsSettled, EndsWithTurn, AreFew, KeptAll, AreViews, no_view}
+use Rattle.run_kept.specs.Kept.{IntakeView}
+use Rattle.ws_program.specs.Replayed.{IsReplayed, IsReport, links_of, is_turn_act}
+use Rattle.ws_program.proofs.FewLemmas.{few_items}
+use Rattle.ws_program.proofs.StopLemmas.{passes_few}
+use Rattle.ws_program.proofs.EndLemmas.{ran_stopped, ran_never_spent, ran_never_failed}
+use Rattle.ws_program.proofs.ReplayedLemmas.{replay_all}
 use Rattle.ws_program.specs.Replay.{CanRun, HasRun, echo_routes}
 
--- the meaning of the command's handler
-abbrev pub after_echo : Unit {0} → EventValue → Unit {0}
-after_echo state event = state
+-- what the command begins with
+abbrev pub echo_beginning : ConfigValue → RouteTable → Beginning (Unit {0})
+echo_beginning f table = record { start = tt; after = λ state _. state; said = λ _ event. echo_said event; config = f; table = table }
 
-abbrev pub said_by_echo : Unit {0} → EventValue → List OrderValue
-said_by_echo state event = echo_said event
+-- there is no intake yet
+abbrev pub no_views : ℕ → IntakeView
+no_views _ = no_view
 
 -- ---- before the first turn
 
@@ -55,6 +54,7 @@ table_none f named = record {
   few = omega arith;
   kept = λ conn. refl;
   config = λ conn there. clash false refl there;
+  gone = λ conn there. refl;
   heads = λ conn there. absurd (let z : Gone ≡ Head = there in cc);
 }
 
@@ -76,15 +76,14 @@ pub there_at_first : (acts : List Act) (hub : HubState) (start : MemNetState) (t
 there_at_first acts hub start told begins =
     there_first (server hub (net_state start) told) (λ conn. ap (λ (n : MemNetState). (net_state n).live conn) begins ∙ idle_link acts (arrivals acts) conn)
 
--- views of intakes of which there are none
-pub views_at_first : (intakes : Intakes) (reader : Reader) → ((conn : ℕ) → intake_at intakes conn ≡ None) → AreViews intakes (λ _. view_of reader 0 [])
-views_at_first intakes reader none conn intake there = absurd (let z : None ≡ Some intake = sym (none conn) ∙ there in cc)
+pub views_at_first : (intakes : Intakes) → ((conn : ℕ) → intake_at intakes conn ≡ None) → AreViews intakes no_views
+views_at_first intakes none conn intake there = absurd (let z : None ≡ Some intake = sym (none conn) ∙ there in cc)
 
-pub kept_first : (f : ConfigValue) (acts : List Act) (table : RouteTable) (hub : HubState) (start : MemNetState) (recorder : RecorderState) (reader : Reader)
-    → hub.config ≡ f → hub.entries ≡ [] → hub.partings ≡ [] → start ≡ start_net acts → recorder ≡ record { notes = []; whole = true }
-    → KeptAll tt after_echo said_by_echo f table (server hub (net_state start) (told_by recorder)) tt (λ _. view_of reader 0 []) None
-kept_first f acts table hub start recorder reader configured entries partings begins empty =
-    kept_at_first tt after_echo said_by_echo f table (server hub (net_state start) (told_by recorder)) tt (λ _. view_of reader 0 []) entries partings configured (table_at_first hub entries partings)
+pub kept_first : (f : ConfigValue) (acts : List Act) (table : RouteTable) (hub : HubState) (start : MemNetState) (recorder : RecorderState)
+    → hub.config ≡ f → hub.entries ≡ [] → hub.pairs ≡ [] → hub.partings ≡ [] → start ≡ start_net acts → recorder ≡ record { notes = []; whole = true }
+    → KeptAll (echo_beginning f table) (server hub (net_state start) (told_by recorder)) tt no_views None
+kept_first f acts table hub start recorder configured entries pairs partings begins empty =
+    kept_at_first (echo_beginning f table) (server hub (net_state start) (told_by recorder)) tt no_views entries pairs partings configured (table_at_first hub entries partings)
     (ap told_by empty) (ap (λ (n : MemNetState). (net_state n).passed) begins) refl
 
 -- ---- after the last
@@ -122,8 +121,8 @@ module _ (f : ConfigValue) (acts : List Act) (hub : HubState) (net : MemNetState
         few p q n all most room = omega arith
 
     pub has_run : Settled hub → r.whole ≡ true → net.whole ≡ true → length r.notes < 2 ^ 64 → EndsWithTurn (told_by r)
-        → IsRight tt after_echo said_by_echo f echo_routes (server hub (net_state net) (told_by r)) tt
-        → IsSettled tt after_echo said_by_echo f echo_routes (server hub (net_state net) (told_by r)) → HasRun f acts hub net r
+        → IsRight (echo_beginning f echo_routes) (server hub (net_state net) (told_by r)) tt
+        → IsSettled (echo_beginning f echo_routes) (server hub (net_state net) (told_by r)) → HasRun f acts hub net r
     has_run settled kept whole short last right rests = record { settled = settled; reports = all }
       where
         told : told_by r ≡ Some r.notes

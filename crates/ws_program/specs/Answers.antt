@@ -1,10 +1,10 @@
 -- What is done with the answers to events, step by step.
-use Rattle.std.specs.Prelude.{◌≡◌, ◌<◌, ◌≤◌, ℕ, true, false, List, [], ◌∷◌, ◌++◌, length, flat_map, Option, None, Some, ⊤}
+use Rattle.std.specs.Prelude.{◌≡◌, ◌<◌, ◌≤◌, ℕ, true, false, List, [], ◌∷◌, ◌++◌, length, flat_map, Option, None, Some}
 use Rattle.std.specs.List.{list_any}
 use Rattle.std.specs.Io.KnownBytes.{Appends}
 use Rattle.link_trait.specs.Link.{Rose}
 use Rattle.link_trait.specs.Sink.{AppendsFront}
-use Rattle.wire_meaning.specs.Event.{Event, message, ping, pong, closed, failed, is_last}
+use Rattle.wire_meaning.specs.Event.{Event, is_last}
 use Rattle.wire_meaning.specs.Answer.{all_spelled, answers}
 use Rattle.frame_reader.specs.declared.step.Step.{Step}
 use Rattle.frame_reader.specs.declared.reader.Reader.{Reader}
@@ -16,18 +16,6 @@ use Rattle.ws_program.specs.declared.answers.Answered.TheVariants as answered
 -- the octets that answer these events
 abbrev pub answers_to : List Event → List ℕ
 answers_to events = all_spelled (flat_map answers events)
-
--- a message, a ping or a pong has at most so many octets
-abbrev pub IsShort : ℕ → Event → Type 0
-IsShort most (message kind octets) = length octets ≤ most
-IsShort most (ping payload) = length payload ≤ most
-IsShort most (pong payload) = length payload ≤ most
-IsShort most (closed code reason) = ⊤
-IsShort most (failed code) = ⊤
-
-abbrev pub AreShort : ℕ → List Event → Type 0
-AreShort most [] = ⊤
-AreShort most (event ∷ events) = IsShort most event × AreShort most events
 
 -- More octets were put behind those held. Of them all a front was written, and the rest is held.
 abbrev pub Passes : (written written' : Option (List ℕ)) → (held held' more : List ℕ) → Type 0

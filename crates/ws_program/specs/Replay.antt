@@ -1,13 +1,13 @@
 -- What a replay did: the schedule that it read, and the report of the schedule's run that it wrote.
-use Rattle.std.specs.Prelude.{◌≡◌, ◌≤◌, ◌<◌, ◌⊎◌, ⊤, ℕ, List, [], Option, true, false, codes, length}
+use Rattle.std.specs.Prelude.{◌≡◌, ◌≤◌, ◌<◌, ◌⊎◌, ◌≢◌, ⊤, ℕ, List, [], Option, Some, true, false, codes, length}
 use Rattle.std.specs.List.{list_all}
 use Rattle.std.specs.Io.KnownBytes.{Appends, Consumes, IsAtEnd}
 use Rattle.ws_kinds.specs.ConfigValue.{ConfigValue}
 use Rattle.ws_kinds.specs.Recorder.{RecorderState}
-use Rattle.link_trait.specs.Link.{Rose}
-use Rattle.link_trait.specs.MemNet.{MemNetState, net_state}
-use Rattle.link_trait.specs.Schedule.{is_sound, is_plain}
-use Rattle.link_trait.specs.declared.schedule.Act.{Act}
+use Rattle.link_trait.specs.Link.{Rose, TellsAlike}
+use Rattle.mem_net.specs.MemNet.{MemNetState, net_state}
+use Rattle.mem_net.specs.Schedule.{is_sound, is_plain}
+use Rattle.link_trait.specs.declared.act.Act.{Act}
 use Rattle.link_trait.specs.Sink.{AppendsFront}
 use Rattle.route_table.specs.Table.{RouteTable, no_routes, with_route}
 use Rattle.schedule_text.specs.declared.fault.Fault.{Fault}
@@ -17,16 +17,17 @@ use Rattle.schedule_text.specs.Report.{report}
 use Rattle.hub_lines.specs.State.{HubState}
 use Rattle.hub_lines.specs.Calls.{Settled}
 use Rattle.run_kept.specs.Ends.{backlog_at}
-use Rattle.run_replayed.specs.Replayed.{IsReport, links_of}
+use Rattle.ws_program.specs.Replayed.{IsReport, links_of}
 use Rattle.ws_program.specs.declared.status.Status.{Status}
-use Rattle.ws_program.specs.declared.status.Status.TheVariants.{Done, Refused, ReadFault, WriteFault, OutOfMemory}
+use Rattle.ws_program.specs.declared.status.Status.TheVariants.{Done, Usage, Refused, ReadFault, WriteFault, OutOfMemory}
+use Rattle.ws_program.specs.Streams.{Streams, TellsFaults}
 
 -- the routes of the command: `/echo` alone, without a subprotocol
 abbrev pub echo_routes : RouteTable
 echo_routes = with_route no_routes (codes "/echo") []
 
 -- the octets that came are the text of a schedule, and the others are the report of its run
-pub record IsReplay (config : ConfigValue) (came text : List ℕ) : Type 0 where
+pub record IsReportOfText (config : ConfigValue) (came text : List ℕ) : Type 0 where
   pub acts : List Act
   pub schedule : IsText came acts
   pub reports : IsReport config echo_routes acts text
@@ -37,12 +38,12 @@ pub record IsReplay (config : ConfigValue) (came text : List ℕ) : Type 0 where
 -- the source was read to its end, and the report of the run of its schedule is written
 abbrev pub ReplaysAll : ConfigValue → (left left' written written' : Option (List ℕ)) → Type 0
 ReplaysAll config left left' written written' =
-    (came : List ℕ) × (text : List ℕ) × Consumes left left' came × IsAtEnd left' × IsReplay config came text × Appends written written' text
+    (came : List ℕ) × (text : List ℕ) × Consumes left left' came × IsAtEnd left' × IsReportOfText config came text × Appends written written' text
 
 -- the same, but that a front of the report is written
 abbrev pub ReplaysFront : ConfigValue → (left left' written written' : Option (List ℕ)) → Type 0
 ReplaysFront config left left' written written' =
-    (came : List ℕ) × (text : List ℕ) × Consumes left left' came × IsAtEnd left' × IsReplay config came text × AppendsFront written written' text
+    (came : List ℕ) × (text : List ℕ) × Consumes left left' came × IsAtEnd left' × IsReportOfText config came text × AppendsFront written written' text
 
 -- the octets that were read are refused so
 abbrev pub IsRefusal : ℕ → Fault → (left left' : Option (List ℕ)) → Type 0
@@ -66,6 +67,32 @@ abbrev pub IsTaken : Status → Type 0
 IsTaken (Refused line fault) = ⊥
 IsTaken status = ⊤
 
+-- How a run of the command `replay` ends, by its status and by what source and sink told before it and after it. Later
+-- clauses of the program cite this record alone.
+pub record ReplayEnds (config : ConfigValue) (status : Status) (old new : Streams) : Type 0 where
+  -- it is done where the source was read to its end, and the report of the run of its schedule is written
+  pub done : status ≡ Done → ReplaysAll config old.left new.left old.written new.written
+  -- before a fault of the sink a front of the report is written
+  pub write_fault : status ≡ WriteFault → ReplaysFront config old.left new.left old.written new.written
+  -- what is refused broke that rule first, in that line
+  pub refused : (line : ℕ) (fault : Fault) → status ≡ Refused line fault → IsRefusal line fault old.left new.left
+  -- with every other status nothing is written
+  pub nothing : WritesNothing status old.written new.written
+  -- the text of a schedule is not refused
+  pub every_text : (octets : List ℕ) (acts : List Act) → old.left ≡ Some octets → IsText octets acts → IsTaken status
+  -- and every other text is, unless the source had a fault or there was too little memory
+  pub every_fault : (octets : List ℕ) (line : ℕ) (fault : Fault) → old.left ≡ Some octets → IsRefused octets line fault → RefusesAs line fault status
+  -- the words were a command
+  pub usage : status ≢ Usage
+  -- a fault is told exactly where it was counted
+  pub faults : TellsFaults status old new
+  -- no count of faults falls
+  pub source_later : old.read_faults ≤ new.read_faults
+  pub sink_later : old.write_faults ≤ new.write_faults
+  -- what told its octets goes on to tell them
+  pub source_tells : TellsAlike old.left new.left
+  pub sink_tells : TellsAlike old.written new.written
+
 -- ---- step by step
 
 -- a net in memory follows these acts, and they are no more than a text has octets
@@ -79,14 +106,14 @@ pub record HasRun (config : ConfigValue) (acts : List Act) (hub : HubState) (net
   pub settled : Settled hub
   pub reports : IsReport config echo_routes acts (report recorder.notes (links_of (backlog_at hub) (net_state net).taken recorder.notes))
 
--- the source gave octets to its end, or more than a text has
-abbrev pub GivesAll : List ℕ → (left left' : Option (List ℕ)) → Type 0
-GivesAll octets left left' = Consumes left left' octets × (IsAtEnd left' ⊎ (1048576 < length octets))
+-- the source gave octets to its end, or more than a text has, without a fault
+abbrev pub GivesAll : List ℕ → (left left' : Option (List ℕ)) → (faults faults' : ℕ) → Type 0
+GivesAll octets left left' faults faults' = Consumes left left' octets × (IsAtEnd left' ⊎ (1048576 < length octets)) × (faults' ≡ faults)
 
--- a reading that ended before, and whether a fault was counted
+-- a reading that ended before, for a fault that was counted, or without one for want of memory
 abbrev pub StopsReading : Status → (faults faults' : ℕ) → Type 0
 StopsReading ReadFault faults faults' = Rose faults faults'
-StopsReading OutOfMemory faults faults' = ⊤
+StopsReading OutOfMemory faults faults' = faults' ≡ faults
 StopsReading status faults faults' = ⊥
 
 -- what becomes of a schedule: its run is reported, or a front of the report is written, or nothing

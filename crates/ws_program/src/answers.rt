@@ -9,7 +9,8 @@ ghost use Rattle.wire_meaning.specs.declared.frame.Opcode.{Opcode};
 ghost use Rattle.wire_meaning.specs.Answer.{spelled, close_item};
 ghost use Rattle.frame_writer.specs.Header.{is_sent_opcode};
 ghost use Rattle.frame_reader.specs.Step.{events_of};
-ghost use Rattle.ws_program.specs.Answers.{Passes, Puts, AreShort, AnswersStep, CountsFaults};
+ghost use Rattle.wire_meaning.specs.Bounds.{AreShort};
+ghost use Rattle.ws_program.specs.Answers.{Passes, Puts, AnswersStep, CountsFaults};
 
 use frame_reader::Step;
 use frame_writer::head_of;

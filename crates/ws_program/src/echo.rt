@@ -1,12 +1,15 @@
 //! The command `echo`: one connection without a handshake, whose messages are sent back.
 
-ghost use Rattle.std.specs.Prelude.{◌≡◌, ◌≢◌, ◌≤◌, length, [], Some};
-ghost use Rattle.link_trait.specs.Link.{Rose, TellsAlike};
+ghost use Rattle.std.specs.Prelude.{◌≡◌, ◌≤◌, length, [], Some};
+ghost use Rattle.link_trait.specs.Link.{TellsAlike};
 ghost use Rattle.frame_reader.specs.Reader.{ahead, room_of};
-ghost use Rattle.ws_program.specs.Answers.{AreShort, AnswersNext, AnswersAll, AnswersOctets, CountsFaults};
-ghost use Rattle.ws_program.specs.Echo.{EchoesAll, EchoesFront, EndsDone, EndsTooLong, ReadsNoFurther, RefusesTooLong, IsFaultless, EndsPast};
+ghost use Rattle.wire_meaning.specs.Bounds.{AreShort};
+ghost use Rattle.ws_program.specs.Answers.{AnswersNext, AnswersAll, AnswersOctets, CountsFaults};
+ghost use Rattle.ws_program.specs.Echo.{EchoEnds, EndsPast};
+ghost use Rattle.ws_program.specs.Streams.{streams};
 
 use crate::answers::{Answered, Answers};
+use crate::reads::MAX_READ;
 use crate::status::Status;
 use frame_reader::Reader;
 use link_trait::{Got, Sink, Source};
@@ -16,16 +19,14 @@ use std::alloc::Global;
 /// The most octets that an echo reads, 64 MiB.
 const MAX_INPUT: usize = 67_108_864;
 
-/// The most octets of one read.
-const MAX_READ: usize = 8192;
-
 /// Reads the frames of one connection, which has no handshake, from the source, and writes what an echo answers to the
 /// sink: every message is sent back, and every ping answered by its pong (RFC 6455, sections 5.5.3 and 5.6).
 ///
 /// A message has at most `max_message` octets, from 1 to 65,536. It ends
 ///
-/// - as `Done` at the source's end, or behind the close frame that answers a close or a failure, after which nothing is
-///   read (section 5.5.1);
+/// - as `Done` at the source's end, or behind the close frame that answers a close or a failure (section 5.5.1). No read
+///   follows one that had the end of the reading: the contract says that without at most the last 8,192 octets that were
+///   read the reading had not ended, and a test looks at the source;
 /// - as `Refused` with line 0 and `TooLong` where 64 MiB were read, the reading has not ended, and a further read gives
 ///   octets. These are not answered;
 /// - as `ReadFault` or `WriteFault` at the first fault of the source or the sink, which they counted. What was read
@@ -41,24 +42,7 @@ pub fn echo_run<S: Source, K: Sink>(
 ) -> Status
     requires least { 1 ≤ max_message }
     requires most { max_message ≤ 65536 }
-    ensures done { result ≡ Status.Done → EndsDone max_message (S.left source.old) (S.left source.new) (K.written sink.old) (K.written sink.new) }
-    ensures too_long { result ≡ Status.Refused 0 Fault.TooLong → EndsTooLong max_message (S.left source.old) (S.left source.new) (K.written sink.old) (K.written sink.new) }
-    ensures refused { RefusesTooLong result }
-    ensures no_further { ReadsNoFurther max_message (S.left source.old) (S.left source.new) }
-
-    ensures read_cause { result ≡ Status.ReadFault → Rose (S.faults source.old) (S.faults source.new) }
-    ensures read_echo { result ≡ Status.ReadFault → EchoesAll max_message (S.left source.old) (S.left source.new) (K.written sink.old) (K.written sink.new) }
-    ensures write_cause { result ≡ Status.WriteFault → Rose (K.faults sink.old) (K.faults sink.new) }
-    ensures write_echo { result ≡ Status.WriteFault → EchoesFront max_message (S.left source.old) (S.left source.new) (K.written sink.old) (K.written sink.new) }
-    ensures memory_reads_nothing { result ≡ Status.OutOfMemory → S.left source.new ≡ S.left source.old }
-    ensures memory_writes_nothing { result ≡ Status.OutOfMemory → K.written sink.new ≡ K.written sink.old }
-    ensures usage { result ≢ Status.Usage }
-    ensures complete { (Rose (S.faults source.old) (S.faults source.new) → ⊥) → (Rose (K.faults sink.old) (K.faults sink.new) → ⊥) → IsFaultless result }
-
-    ensures source_tells { TellsAlike (S.left source.old) (S.left source.new) }
-    ensures sink_tells { TellsAlike (K.written sink.old) (K.written sink.new) }
-    ensures source_later { S.faults source.old ≤ S.faults source.new }
-    ensures sink_later { K.faults sink.old ≤ K.faults sink.new }
+    ensures { EchoEnds max_message result (streams S.Source K.Sink source.old sink.old) (streams S.Source K.Sink source.new sink.new) }
 {
     let Ok(mut reader) = Reader::new(alloc, max_message) else {
         return Status::OutOfMemory;
@@ -87,10 +71,9 @@ pub fn echo_run<S: Source, K: Sink>(
 
 /// How an echo ends that has read all that it may: one more read tells whether the source has more.
 fn past_the_limit<S: Source>(source: &mut S) -> Status
-    ensures ends { EndsPast result (S.left source.old) (S.left source.new) }
+    ensures ends { EndsPast result (S.left source.old) (S.left source.new) (S.faults source.old) (S.faults source.new) }
     ensures tells { TellsAlike (S.left source.old) (S.left source.new) }
     ensures later { S.faults source.old ≤ S.faults source.new }
-    ensures cause { result ≡ Status.ReadFault → Rose (S.faults source.old) (S.faults source.new) }
 {
     match source.read(&mut [0; 1]) {
         Got::Octets(_) => Status::Refused {

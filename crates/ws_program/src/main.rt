@@ -5,8 +5,10 @@ mod answers;
 mod commands;
 mod echo;
 mod echo_handler;
+mod reads;
 mod replay;
 mod report;
+mod runs;
 mod status;
 mod words;
 
@@ -17,8 +19,6 @@ use std::env;
 use std::io::ErrorKind;
 use std::process::ExitCode;
 
-#[cfg(test)]
-mod replay_tests;
 #[cfg(test)]
 mod tests;
 

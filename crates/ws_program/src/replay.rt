@@ -1,21 +1,22 @@
 //! The command `replay`: a schedule is read and run over a net in memory, and the report of its run is written.
 
-ghost use Rattle.std.specs.Prelude.{◌≡◌, ◌≢◌, ◌≤◌, ◌<◌, ◌^◌, ℕ, List, Some, true, length, IfOk, IfErr};
+ghost use Rattle.std.specs.Prelude.{◌≡◌, ◌≤◌, ◌<◌, ◌^◌, ℕ, List, true, length, IfOk, IfErr};
 ghost use Rattle.std.specs.List.{count_by};
-ghost use Rattle.link_trait.specs.Link.{Rose, TellsAlike};
-ghost use Rattle.link_trait.specs.MemNet.{FollowsSchedule};
-ghost use Rattle.run_replayed.specs.Replayed.{is_turn_act};
+ghost use Rattle.link_trait.specs.Link.{TellsAlike};
+ghost use Rattle.mem_net.specs.MemNet.{FollowsSchedule};
+ghost use Rattle.ws_program.specs.Replayed.{is_turn_act};
 ghost use Rattle.schedule_text.specs.Reading.{IsText, IsRefused};
-ghost use Rattle.ws_program.specs.Echo.{IsFaultless};
-ghost use Rattle.ws_program.specs.Replay.{ReplaysAll, ReplaysFront, IsRefusal, WritesNothing, RefusesAs, IsTaken, CanRun, HasRun, GivesAll, StopsReading, AnswersSchedule, AnswersText, echo_routes};
+ghost use Rattle.ws_program.specs.Replay.{ReplayEnds, RefusesAs, IsTaken, CanRun, HasRun, GivesAll, StopsReading, AnswersSchedule, AnswersText, echo_routes};
+ghost use Rattle.ws_program.specs.Streams.{streams};
 
 use crate::echo_handler::Echo;
+use crate::reads::MAX_READ;
 use crate::report::report;
 use crate::status::Status;
-use frame_reader::Reader;
 use hub_core::Hub;
-use link_trait::{Act, Got, MemNet, Outside, Schedule, Sink, Source};
+use link_trait::{Act, Got, Outside, Sink, Source};
 use loop_runner::{Intakes, Ran, run};
+use mem_net::{MemNet, Schedule};
 use route_table::Routes;
 use schedule_text::{Fault, ReadFault, read};
 use std::alloc::{AllocError, Global};
@@ -23,9 +24,6 @@ use ws_kinds::{Config, Recorder, Tally};
 
 /// The most octets that are read: one more than a schedule's text may have, which shows that it is too long.
 const MAX_INPUT: usize = 1_048_577;
-
-/// The most octets of one read.
-const MAX_READ: usize = 8192;
 
 /// Reads the text of a schedule from the source, to its end, runs it over a net in memory with a handler that sends each
 /// message on the route `/echo` back, and writes the report of the run to the sink: the line of each note, in order, and
@@ -45,22 +43,7 @@ pub fn replay_run<S: Source, K: Sink>(
     source: &mut S,
     sink: &mut K,
 ) -> Status
-    ensures done { result ≡ Status.Done → ReplaysAll config (S.left source.old) (S.left source.new) (K.written sink.old) (K.written sink.new) }
-    ensures write_front { result ≡ Status.WriteFault → ReplaysFront config (S.left source.old) (S.left source.new) (K.written sink.old) (K.written sink.new) }
-    ensures refused { (line : ℕ) (fault : Fault) → result ≡ Status.Refused line fault → IsRefusal line fault (S.left source.old) (S.left source.new) }
-    ensures nothing { WritesNothing result (K.written sink.old) (K.written sink.new) }
-
-    ensures every_text { (octets : List ℕ) (acts : List Act) → S.left source.old ≡ Some octets → IsText octets acts → IsTaken result }
-    ensures every_fault { (octets : List ℕ) (line : ℕ) (fault : Fault) → S.left source.old ≡ Some octets → IsRefused octets line fault → RefusesAs line fault result }
-    ensures read_cause { result ≡ Status.ReadFault → Rose (S.faults source.old) (S.faults source.new) }
-    ensures write_cause { result ≡ Status.WriteFault → Rose (K.faults sink.old) (K.faults sink.new) }
-    ensures usage { result ≢ Status.Usage }
-    ensures complete { (Rose (S.faults source.old) (S.faults source.new) → ⊥) → (Rose (K.faults sink.old) (K.faults sink.new) → ⊥) → IsFaultless result }
-
-    ensures source_tells { TellsAlike (S.left source.old) (S.left source.new) }
-    ensures sink_tells { TellsAlike (K.written sink.old) (K.written sink.new) }
-    ensures source_later { S.faults source.old ≤ S.faults source.new }
-    ensures sink_later { K.faults sink.old ≤ K.faults sink.new }
+    ensures { ReplayEnds config result (streams S.Source K.Sink source.old sink.old) (streams S.Source K.Sink source.new sink.new) }
 {
     match read_all(alloc, source) {
         Ok(octets) => replay_text(alloc, config, &octets, sink),
@@ -70,7 +53,7 @@ pub fn replay_run<S: Source, K: Sink>(
 
 /// The octets of a source, to its end; or the first 1,048,577 of them, where there are so many.
 fn read_all<S: Source>(alloc: Global, source: &mut S) -> Result<Vec<u8>, Status>
-    ensures given { IfOk result (λ octets. GivesAll octets.items (S.left source.old) (S.left source.new)) }
+    ensures given { IfOk result (λ octets. GivesAll octets.items (S.left source.old) (S.left source.new) (S.faults source.old) (S.faults source.new)) }
     ensures stopped { IfErr result (λ status. StopsReading status (S.faults source.old) (S.faults source.new)) }
     ensures tells { TellsAlike (S.left source.old) (S.left source.new) }
     ensures later { S.faults source.old ≤ S.faults source.new }
@@ -139,9 +122,6 @@ fn run_schedule(alloc: Global, config: Config, schedule: Schedule) -> Result<Rep
     ensures { IfOk result (λ replayed. HasRun config schedule replayed.hub replayed.net replayed.watch) }
 {
     let turns = turns_of(schedule.acts()) as u64 + 1;
-    // Without the memory for one reader no connection could be taken in.
-    let reader = Reader::new(alloc, config.max_message())?;
-    drop(reader);
     let mut hub = Hub::new(alloc, config)?;
     let mut intakes = Intakes::new(alloc, config.max_message());
     let routes = routes_of_echo(alloc)?;

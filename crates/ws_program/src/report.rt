@@ -3,16 +3,17 @@
 ghost use Rattle.std.specs.Prelude.{◌≡◌, length, [], ◌∷◌, IfSome, IfNone};
 ghost use Rattle.std.specs.List.{flat_map};
 ghost use Rattle.ws_kinds.specs.NoteValue.{note_value};
-ghost use Rattle.link_trait.specs.MemNet.{net_state};
+ghost use Rattle.mem_net.specs.MemNet.{net_state};
 ghost use Rattle.schedule_text.specs.Output.{WritesText};
 ghost use Rattle.schedule_text.specs.Report as text;
 ghost use Rattle.hub_lines.specs.Calls.{Settled};
 ghost use Rattle.run_kept.specs.Ends.{backlog_at};
 ghost use Rattle.run_meaning.specs.Counts as noted;
-ghost use Rattle.run_replayed.specs.Replayed.{links_of, all_link_lines};
+ghost use Rattle.ws_program.specs.Replayed.{links_of, all_link_lines};
 
 use hub_core::Hub;
-use link_trait::{MemNet, Sink};
+use link_trait::Sink;
+use mem_net::MemNet;
 use schedule_text::{report_link, report_note};
 use ws_kinds::{Conn, Note, Phase, Recorder};
 

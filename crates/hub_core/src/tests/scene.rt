@@ -2,10 +2,11 @@
 
 ghost use Rattle.std.specs.Prelude.{◌≡◌, [], IfOk};
 ghost use Rattle.std.specs.List.{list_all};
-ghost use Rattle.link_trait.specs.Schedule as spec;
+ghost use Rattle.mem_net.specs.Schedule as spec;
 
 use crate::Hub;
-use link_trait::{Act, MemNet, Outside, Schedule};
+use link_trait::{Act, Outside};
+use mem_net::{MemNet, Schedule};
 use std::test::*;
 use ws_kinds::{Config, Conn, Left, Note, Recorder, Tally, Watch};
 
@@ -25,11 +26,14 @@ fn are_plain(acts: &[Act]) -> bool
     acts.iter().all(|act| is_plain(act))
 }
 
-/// A net on which three connections arrive, and a watch that keeps the notes.
+/// A net on which six connections arrive, and a watch that keeps the notes.
 pub fn outside(rt: &HostRuntime) -> Result<Outside<MemNet, Recorder>, Fail> {
     let mut schedule = Schedule::new(rt.alloc());
-    for conn in [Conn(1), Conn(2), Conn(3)] {
-        let arrival = Act::Arrive { conn, credit: None };
+    for number in 1..=6 {
+        let arrival = Act::Arrive {
+            conn: Conn(number),
+            credit: None,
+        };
         schedule.push(arrival).ok().ok_or("memory")?;
     }
     if !schedule.sound() || !are_plain(schedule.acts()) {
@@ -78,7 +82,7 @@ pub fn took(conn: Conn, count: u64) -> Note<'static> {
     }
 }
 
-/// The note that a connection is admitted by `steps::admit`.
+/// The note that a connection is admitted by `calls::play`.
 pub fn opened(conn: Conn) -> Note<'static> {
     Note::Opened {
         conn,

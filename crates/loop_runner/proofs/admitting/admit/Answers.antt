@@ -1,35 +1,47 @@
-use Rattle.loop_runner.specs.Steps.{But}
-use Rattle.loop_runner.proofs.StepLemmas.{steps_then, steps_but}
-use Rattle.loop_runner.proofs.GrowLemmas.{grows_then}
-use Rattle.std.proofs.Common.{◌≡◌, ℕ, List, None, ap, ◌∙◌}
-use Rattle.upgrade_head.specs.Judged.{admit, answer_text}
+use Rattle.std.proofs.Common.{◌≡◌, List, ℕ, Some, None, refl, sym, ap, ◌∙◌, subst}
+use Rattle.upgrade_head.specs.Judged.{Judged, admit, answer_text}
 use Rattle.upgrade_head.specs.Texts.{reply_text}
-use Rattle.hub_lines.specs.State.{Server, server}
-use Rattle.run_kept.specs.Kept.{IntakeView}
-use Rattle.loop_runner.specs.Keeps.{intake_view, with_view}
-use Rattle.loop_runner.proofs.AdmitLemmas.{keeps_opened, alike_views, view_read, view_given}
+use Rattle.frame_reader.specs.Reader.{raw_of}
+use Rattle.hub_core.specs.At.{at}
+use Rattle.loop_runner.specs.Keeps.{beginning, intake_view, view_of}
+use Rattle.loop_runner.specs.Moments.{KeepsOne}
+use Rattle.loop_runner.proofs.AdmitLemmas.{keep_opened}
+use Rattle.loop_runner.proofs.HeadLemmas.{frames_of}
+use Rattle.loop_runner.proofs.KeepLemmas.{keep_one_then}
+use Rattle.loop_runner.proofs.StepLemmas.{steps_then, steps_but}
+use Rattle.loop_runner.specs.Steps.{But}
 use Rattle.loop_runner.proofs.admitting.admit.Goals as goal
 
-pub returns-clause-steps : goal.returns-clause-steps
-returns-clause-steps g c = steps_then (But c.args.conn.0) _ _ _ c.open.ensures.steps (steps_but c.args.conn.0 _ _ c.read_frames.ensures.steps)
+pub read_frames-requires-clause-frames : goal.read_frames-requires-clause-frames
+read_frames-requires-clause-frames g c = frames_of _ _ c.open.ensures.entered (λ reads. c.enter.ensures.goes_on)
 
-pub returns-clause-grows : goal.returns-clause-grows
-returns-clause-grows g c = grows_then _ _ _ c.open.ensures.grows c.read_frames.ensures.grows
+pub read_frames-requires-clause-ties : goal.read_frames-requires-clause-ties
+read_frames-requires-clause-ties g c = c.open.ensures.steps.ties c.requires.ties
+
+pub returns-clause-takes : goal.returns-clause-takes
+returns-clause-takes g c = record {
+  steps = steps_then (But c.args.conn.0) _ _ _ c.open.ensures.steps (steps_but c.args.conn.0 _ _ c.read_frames.ensures.steps);
+  asked = λ reads. let before = c.read_frames.ensures.steps.reading c.args.conn.0 reads in c.read_frames.ensures.steps.due c.args.conn.0 (tt {0}) reads ∙ c.open.ensures.due before ∙ c.requires.asked;
+  taken = c.read_frames.ensures.taken;
+  max = c.read_frames.ensures.max ∙ c.enter.ensures.max;
+}
 
 pub returns-clause-kept : goal.returns-clause-kept
-returns-clause-kept g c start config views at old =
-    let handler = g.H.Handler in
-    let intake : IntakeView = intake_view c.args.intake.now in
-    let opened : IntakeView = intake_view c.enter.new.intake in
-    let conn : ℕ = c.args.conn.0 in
-    let a : Server = server c.args.hub.now (g.N.Net.state c.args.out.now.net) (g.W.Watch.told c.args.out.now.watch) in
-    let d : Server = server c.open.new.hub (g.N.Net.state c.open.new.out.net) (g.W.Watch.told c.open.new.out.watch) in
-    let b : Server = server c.read_frames.new.hub (g.N.Net.state c.read_frames.new.out.net) (g.W.Watch.told c.read_frames.new.out.watch) in
-    let ready : IntakeView = record { reader = c.read_frames.new.reader; route = c.enter.new.intake.route; param = c.enter.new.intake.param.items } in
+returns-clause-kept g c = λ start config.
+    let b = beginning g.H.Handler start config c.args.routes.now in
+    let intake = c.args.intake.now in
+    let opened = c.enter.new.intake in
     let put : c.deref.result.now ≡ answer_text c.args.routes.now (admit c.args.admission.end c.args.admission.route c.args.admission.param.items c.args.admission.accept c.args.admission.protocol) =
     c.deref.ensures.0 ∙ c.reply-reply.ensures.text ∙ ap (λ (z : List ℕ). reply_text c.args.admission.accept z) c.named.ensures.value in
-    let mid = keeps_opened start handler.after handler.said config c.args.routes.now conn c.args.admission.end c.args.admission.route c.args.admission.param.items c.args.admission.accept c.args.admission.protocol
-    c.deref.result.now a d (handler.state c.args.handler.now) (handler.state c.open.new.handler) views intake opened at c.requires.phase c.requires.judged c.requires.end
-    c.enter.ensures.ahead c.enter.ensures.route c.enter.ensures.param put c.open.ensures.state c.open.ensures.opens c.open.ensures.table c.open.ensures.grows old in
-    alike_views start handler.after handler.said config c.args.routes.now b (handler.state c.read_frames.new.handler) _ (with_view conn ready views) None (view_read conn c.read_frames.new.reader c.enter.new.intake.route _ _ opened views c.as_slice.ensures.value)
-    (c.read_frames.ensures.kept start config c.args.routes.now (with_view conn opened views) (view_given conn opened views _ c.as_slice.ensures.value) mid)
+    let judged : Judged c.args.routes.now (raw_of c.args.intake.now.reader) (admit c.args.admission.end c.enter.new.intake.route c.enter.new.intake.param.items c.args.admission.accept c.args.admission.protocol) =
+    subst (λ (z : ℕ). Judged c.args.routes.now (raw_of c.args.intake.now.reader) (admit c.args.admission.end z c.enter.new.intake.param.items c.args.admission.accept c.args.admission.protocol)) (sym c.enter.ensures.route)
+    (subst (λ (z : List ℕ). Judged c.args.routes.now (raw_of c.args.intake.now.reader) (admit c.args.admission.end c.args.admission.route z c.args.admission.accept c.args.admission.protocol)) (sym c.enter.ensures.param) c.requires.judged) in
+    let text : c.deref.result.now ≡ answer_text c.args.routes.now (admit c.args.admission.end c.enter.new.intake.route c.enter.new.intake.param.items c.args.admission.accept c.args.admission.protocol) =
+    put ∙ ap (λ (z : ℕ). answer_text c.args.routes.now (admit c.args.admission.end z c.args.admission.param.items c.args.admission.accept c.args.admission.protocol)) (sym c.enter.ensures.route)
+    ∙ ap (λ (z : List ℕ). answer_text c.args.routes.now (admit c.args.admission.end c.enter.new.intake.route z c.args.admission.accept c.args.admission.protocol)) (sym c.enter.ensures.param) in
+    let opens = c.open.ensures.opens in
+    let first = keep_opened (beginning g.H.Handler start config c.args.routes.now) c.args.conn.0 c.args.admission.end c.args.admission.accept c.args.admission.protocol c.deref.result.now _ opens.between _ _ _ (intake_view c.args.intake.now) (intake_view c.enter.new.intake) _ refl c.requires.phase
+    judged c.requires.end c.enter.ensures.ahead text opens.proceeds opens.appends opens.state opens.served c.open.ensures.table in
+    let frames = subst (λ (z : List ℕ). KeepsOne (beginning g.H.Handler start config c.args.routes.now) c.args.conn.0 (Some c.args.conn.0) None (view_of c.enter.new.intake.reader c.enter.new.intake.route z) (view_of c.read_frames.new.reader c.enter.new.intake.route z) (at g.N.Net g.W.Watch c.open.new.hub c.open.new.out) (g.H.Handler.state c.open.new.handler) (at g.N.Net g.W.Watch c.read_frames.new.hub c.read_frames.new.out) (g.H.Handler.state c.read_frames.new.handler))
+    c.as_slice.ensures.value (c.read_frames.ensures.kept c.args.routes.now start config) in
+    keep_one_then (beginning g.H.Handler start config c.args.routes.now) c.args.conn.0 _ _ _ _ _ _ _ _ _ _ _ _ first frames

@@ -1,18 +1,21 @@
-use Rattle.std.proofs.Common.{rules}
+use Rattle.std.proofs.Common.{◌≡◌, false, is_some, ◌∙◌, sym, rules}
+use Rattle.hub_lines.specs.State.{phase_at}
 use Rattle.loop_runner.specs.Steps.{Every}
-use Rattle.loop_runner.proofs.RunningLemmas.{running_steps}
-use Rattle.loop_runner.proofs.CloseLemmas.{running_shut}
-use Rattle.loop_runner.proofs.CloseKeepLemmas.{views_shut}
+use Rattle.loop_runner.proofs.CloseLemmas.{kept_phase}
+use Rattle.loop_runner.proofs.RunningLemmas.{running_shut, running_steps}
+use Rattle.loop_runner.proofs.ViewLemmas.{views_shut}
 use Rattle.loop_runner.proofs.closing.close.Goals as goal
 
-pub returns-then-not-is_entry-clause-running : goal.returns-then-not-is_entry-clause-running
-returns-then-not-is_entry-clause-running g c =
-    running_shut c.args.parting.now.conn.0 c.args.intakes.now _ _ (running_steps Every c.args.intakes.now _ _ c.requires.running c.give_closed.ensures.steps) c.shut.ensures.others c.shut.ensures.shut (search rules)
+pub returns-then-is_none-clause-running : goal.returns-then-is_none-clause-running
+returns-then-is_none-clause-running g c =
+    let running = running_steps Every c.args.intakes.now _ _ c.requires.running c.give_closed.ensures.steps in
+    let not_none : is_some (phase_at c.give_closed.new.hub c.args.parting.now.conn.0) ≡ false = search rules in
+    running_shut c.args.parting.now.conn.0 c.args.intakes.now _ _ running c.shut.ensures.others c.shut.ensures.shut (sym (kept_phase c.give_closed.new.hub c.args.parting.now.conn.0 running.table) ∙ not_none)
 
-pub returns-then-not-is_entry-clause-kept : goal.returns-then-not-is_entry-clause-kept
-returns-then-not-is_entry-clause-kept g c start config table views before taken app admitted are k =
-    (views_shut c.args.parting.now.conn.0 c.args.intakes.now c.shut.new.self views are c.shut.ensures.others c.shut.ensures.shut, c.give_closed.ensures.kept start config table views before taken app admitted are k)
+pub returns-else-is_none-clause-running : goal.returns-else-is_none-clause-running
+returns-else-is_none-clause-running g c = running_steps Every c.args.intakes.now _ _ c.requires.running c.give_closed.ensures.steps
 
-pub returns-else-not-is_entry-clause-kept : goal.returns-else-not-is_entry-clause-kept
-returns-else-not-is_entry-clause-kept g c start config table views before taken app admitted are k =
-    (are, c.give_closed.ensures.kept start config table views before taken app admitted are k)
+pub returns-then-is_none-clause-kept : goal.returns-then-is_none-clause-kept
+returns-then-is_none-clause-kept g c = λ before out table start config views are k.
+    let x = c.give_closed.ensures.kept before out table start config views are k in
+    (x.0, views_shut c.args.parting.now.conn.0 c.args.intakes.now c.shut.new.self x.0 x.1 c.shut.ensures.others c.shut.ensures.shut, x.2)

@@ -1,11 +1,7 @@
 use Rattle.std.proofs.Common.{refl}
 use Rattle.loop_runner.specs.Steps.{Every}
 use Rattle.loop_runner.proofs.StepLemmas.{steps_then, steps_noted}
-use Rattle.loop_runner.proofs.GrowLemmas.{grows_then, grows_noted}
 use Rattle.loop_runner.proofs.frames.give_message.Goals as goal
 
 pub returns-clause-steps : goal.returns-clause-steps
 returns-clause-steps g c = steps_then Every _ _ _ (steps_noted _ _ _ _ _ c.note.ensures (λ d. refl)) c.give.ensures.steps
-
-pub returns-clause-grows : goal.returns-clause-grows
-returns-clause-grows g c = grows_then _ _ _ (grows_noted _ _ _ _ _ _ c.note.ensures) c.give.ensures.grows

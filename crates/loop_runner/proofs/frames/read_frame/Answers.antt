@@ -1,8 +1,14 @@
-use Rattle.std.proofs.Common.{◌≡◌, Some, None, sym, ap, ◌∙◌}
+use Rattle.std.proofs.Common.{◌≡◌, Option, Some, None, false, sym, ap, ◌∙◌, subst}
 use Rattle.ws_kinds.specs.declared.note.Phase.{Phase}
-use Rattle.ws_kinds.specs.declared.note.Phase.TheVariants.{Head, Open, Leaving, Ending, Gone}
+use Rattle.ws_kinds.specs.declared.note.Phase.TheVariants.{Open, Leaving}
+use Rattle.hub_lines.specs.State.{phase_at}
+use Rattle.hub_notes.specs.Answers.{has_frames}
+use Rattle.run_laws.proofs.HearLemmas.{step_is_read}
+use Rattle.loop_runner.specs.Keeps.{beginning}
+use Rattle.loop_runner.specs.Steps.{HasFrames}
 use Rattle.loop_runner.proofs.EventLemmas.{step_sound}
-use Rattle.loop_runner.proofs.FrameKeeps.{keep_rest, keep_never}
+use Rattle.loop_runner.proofs.FrameKeeps.{keep_rest}
+use Rattle.loop_runner.proofs.HeadLemmas.{frames_after, taken_after}
 use Rattle.loop_runner.proofs.frames.read_frame.Goals as goal
 
 pub take_open-requires-clause-sound : goal.take_open-requires-clause-sound
@@ -11,33 +17,50 @@ take_open-requires-clause-sound g c = step_sound c.args.reader.now c.next.follow
 pub take_leaving-requires-clause-sound : goal.take_leaving-requires-clause-sound
 take_leaving-requires-clause-sound g c = step_sound c.args.reader.now c.next-in-Some-Leaving.follows.lender-at-none c.next-in-Some-Leaving.result c.next-in-Some-Leaving.follows.holds-at-none
 
+pub returns-in-Some-Open-clause-frames : goal.returns-in-Some-Open-clause-frames
+returns-in-Some-Open-clause-frames g c told =
+    let at : phase_at c.args.hub.now c.args.conn.0 ≡ Some Open = sym c.phase.ensures ∙ c.in-Some-Open.is ∙ ap (λ (z : Phase). Some z) c.in-Some-Open.field-0-is in
+    frames_after (phase_at c.args.hub.now c.args.conn.0) _ c.next.result c.args.reader.now _ c.next.follows.holds-at-none (subst (λ (z : Option Phase). HasFrames z c.args.reader.now) at c.requires.frames) (ap has_frames at)
+    (c.take_open.ensures.steps.phase c.args.conn.0 (tt {0})) c.take_open.ensures.last
+
+pub returns-in-Some-Open-clause-taken : goal.returns-in-Some-Open-clause-taken
+returns-in-Some-Open-clause-taken g c none =
+    let at : phase_at c.args.hub.now c.args.conn.0 ≡ Some Open = sym c.phase.ensures ∙ c.in-Some-Open.is ∙ ap (λ (z : Phase). Some z) c.in-Some-Open.field-0-is in
+    taken_after (phase_at c.args.hub.now c.args.conn.0) _ c.next.result c.args.reader.now _ c.next.follows.holds-at-none (subst (λ (z : Option Phase). HasFrames z c.args.reader.now) at c.requires.frames) (ap has_frames at)
+    (c.take_open.ensures.steps.phase c.args.conn.0 (tt {0})) (c.take_open.ensures.more none)
+
+pub returns-in-Some-Leaving-clause-frames : goal.returns-in-Some-Leaving-clause-frames
+returns-in-Some-Leaving-clause-frames g c told =
+    let at : phase_at c.args.hub.now c.args.conn.0 ≡ Some Leaving = sym c.phase.ensures ∙ c.in-Some-Leaving.is ∙ ap (λ (z : Phase). Some z) c.in-Some-Leaving.field-0-is in
+    let next = c.next-in-Some-Leaving in
+    frames_after (phase_at c.args.hub.now c.args.conn.0) _ next.result c.args.reader.now _ next.follows.holds-at-none (subst (λ (z : Option Phase). HasFrames z c.args.reader.now) at c.requires.frames) (ap has_frames at)
+    (c.take_leaving.ensures.steps.phase c.args.conn.0 (tt {0})) c.take_leaving.ensures.last
+
+pub returns-in-Some-Leaving-clause-taken : goal.returns-in-Some-Leaving-clause-taken
+returns-in-Some-Leaving-clause-taken g c none =
+    let at : phase_at c.args.hub.now c.args.conn.0 ≡ Some Leaving = sym c.phase.ensures ∙ c.in-Some-Leaving.is ∙ ap (λ (z : Phase). Some z) c.in-Some-Leaving.field-0-is in
+    let next = c.next-in-Some-Leaving in
+    taken_after (phase_at c.args.hub.now c.args.conn.0) _ next.result c.args.reader.now _ next.follows.holds-at-none (subst (λ (z : Option Phase). HasFrames z c.args.reader.now) at c.requires.frames) (ap has_frames at)
+    (c.take_leaving.ensures.steps.phase c.args.conn.0 (tt {0})) (c.take_leaving.ensures.more none)
+
 pub returns-in-Some-Open-clause-kept : goal.returns-in-Some-Open-clause-kept
-returns-in-Some-Open-clause-kept g c = λ start config table views is old. c.take_open.ensures.kept start config table views _ _ c.next.follows.holds-at-none is old
+returns-in-Some-Open-clause-kept g c = λ table. c.take_open.ensures.kept table _ _ (step_is_read c.args.reader.now _ c.next.result c.next.follows.holds-at-none)
 
 pub returns-in-Some-Leaving-clause-kept : goal.returns-in-Some-Leaving-clause-kept
-returns-in-Some-Leaving-clause-kept g c = λ start config table views is.
-    keep_never start g.H.Handler.after g.H.Handler.said config table c.args.conn.0 c.args.route c.args.param.now views _ _ _ _ _ _ c.take_leaving.ensures.grows (sym c.phase.ensures ∙ c.in-Some-Leaving.is ∙ ap (λ (z : Phase). Some z) c.in-Some-Leaving.field-0-is)
+returns-in-Some-Leaving-clause-kept g c = λ table.
+    c.take_leaving.ensures.kept table _ _ c.args.route c.args.param.now (step_is_read c.args.reader.now _ c.next-in-Some-Leaving.result c.next-in-Some-Leaving.follows.holds-at-none)
 
 pub returns-in-Some-Head-clause-kept : goal.returns-in-Some-Head-clause-kept
-returns-in-Some-Head-clause-kept g c = λ start config table views is.
-    keep_rest start g.H.Handler.after g.H.Handler.said config table c.args.conn.0 c.args.route c.args.param.now views _ _ _ c.requires.frames
-    (λ p. let q : Some Head ≡ Some Open = sym (sym c.phase.ensures ∙ c.in-Some-Head.is ∙ ap (λ (z : Phase). Some z) c.in-Some-Head.field-0-is) ∙ p in cc)
-    (λ p. let q : Some Head ≡ Some Leaving = sym (sym c.phase.ensures ∙ c.in-Some-Head.is ∙ ap (λ (z : Phase). Some z) c.in-Some-Head.field-0-is) ∙ p in cc) is
+returns-in-Some-Head-clause-kept g c = λ table start config. keep_rest (beginning g.H.Handler start config table) c.args.conn.0 c.args.route c.args.param.now c.args.reader.now _ _ c.requires.frames
+    (ap has_frames (sym c.phase.ensures ∙ c.in-Some-Head.is ∙ ap (λ (z : Phase). Some z) c.in-Some-Head.field-0-is))
 
 pub returns-in-Some-Ending-clause-kept : goal.returns-in-Some-Ending-clause-kept
-returns-in-Some-Ending-clause-kept g c = λ start config table views is.
-    keep_rest start g.H.Handler.after g.H.Handler.said config table c.args.conn.0 c.args.route c.args.param.now views _ _ _ c.requires.frames
-    (λ p. let q : Some Ending ≡ Some Open = sym (sym c.phase.ensures ∙ c.in-Some-Ending.is ∙ ap (λ (z : Phase). Some z) c.in-Some-Ending.field-0-is) ∙ p in cc)
-    (λ p. let q : Some Ending ≡ Some Leaving = sym (sym c.phase.ensures ∙ c.in-Some-Ending.is ∙ ap (λ (z : Phase). Some z) c.in-Some-Ending.field-0-is) ∙ p in cc) is
+returns-in-Some-Ending-clause-kept g c = λ table start config. keep_rest (beginning g.H.Handler start config table) c.args.conn.0 c.args.route c.args.param.now c.args.reader.now _ _ c.requires.frames
+    (ap has_frames (sym c.phase.ensures ∙ c.in-Some-Ending.is ∙ ap (λ (z : Phase). Some z) c.in-Some-Ending.field-0-is))
 
 pub returns-in-Some-Gone-clause-kept : goal.returns-in-Some-Gone-clause-kept
-returns-in-Some-Gone-clause-kept g c = λ start config table views is.
-    keep_rest start g.H.Handler.after g.H.Handler.said config table c.args.conn.0 c.args.route c.args.param.now views _ _ _ c.requires.frames
-    (λ p. let q : Some Gone ≡ Some Open = sym (sym c.phase.ensures ∙ c.in-Some-Gone.is ∙ ap (λ (z : Phase). Some z) c.in-Some-Gone.field-0-is) ∙ p in cc)
-    (λ p. let q : Some Gone ≡ Some Leaving = sym (sym c.phase.ensures ∙ c.in-Some-Gone.is ∙ ap (λ (z : Phase). Some z) c.in-Some-Gone.field-0-is) ∙ p in cc) is
+returns-in-Some-Gone-clause-kept g c = λ table start config. keep_rest (beginning g.H.Handler start config table) c.args.conn.0 c.args.route c.args.param.now c.args.reader.now _ _ c.requires.frames
+    (ap has_frames (sym c.phase.ensures ∙ c.in-Some-Gone.is ∙ ap (λ (z : Phase). Some z) c.in-Some-Gone.field-0-is))
 
 pub returns-in-None-clause-kept : goal.returns-in-None-clause-kept
-returns-in-None-clause-kept g c = λ start config table views is.
-    keep_rest start g.H.Handler.after g.H.Handler.said config table c.args.conn.0 c.args.route c.args.param.now views _ _ _ c.requires.frames
-    (λ p. let q : None ≡ Some Open = sym c.in-None.is ∙ c.phase.ensures ∙ p in cc)
-    (λ p. let q : None ≡ Some Leaving = sym c.in-None.is ∙ c.phase.ensures ∙ p in cc) is
+returns-in-None-clause-kept g c = λ table start config. keep_rest (beginning g.H.Handler start config table) c.args.conn.0 c.args.route c.args.param.now c.args.reader.now _ _ c.requires.frames (ap has_frames (sym c.phase.ensures ∙ c.in-None.is))

@@ -1,27 +1,23 @@
-use Rattle.std.proofs.Common.{◌≡◌, ℕ, [], length, Some}
-use Rattle.ws_kinds.specs.ConfigValue.{ConfigValue}
+use Rattle.std.specs.Prelude.{◌≡◌, [], Some, length}
 use Rattle.route_table.specs.Table.{RouteTable}
 use Rattle.frame_reader.specs.Reader.{ahead, max_of}
-use Rattle.hub_lines.specs.State.{server, phase_at}
+use Rattle.hub_lines.specs.State.{phase_at}
 use Rattle.hub_lines.specs.Calls.{Ties}
-use Rattle.run_kept.specs.Kept.{IntakeView}
-use Rattle.loop_runner.specs.Keeps.{Grows, KeptAll, view_of, with_view}
+use Rattle.hub_core.specs.At.{at}
 use Rattle.loop_runner.specs.Steps.{Every, Steps, HasFrames}
+use Rattle.loop_runner.specs.Keeps.{view_of}
+use Rattle.loop_runner.specs.Moments.{moment, KeepsView}
 use Rattle.loop_runner.proofs.frames.read_frames.Given as goal
 
 abbrev pub invariant-steps : goal.invariant-steps
 invariant-steps g l =
-    let net = g.N.Net in
-    let watch = g.W.Watch in
+    let seen = moment g.N.Net g.W.Watch g.H.Handler in
     record {
       frames : HasFrames (phase_at l.hub l.conn.0) l.reader;
-      ties : Ties (server l.hub (net.state l.out.net) (watch.told l.out.watch));
-      steps : Steps Every (server l.fn.hub (net.state l.fn.out.net) (watch.told l.fn.out.watch)) (server l.hub (net.state l.out.net) (watch.told l.out.watch));
+      ties : Ties (at g.N.Net g.W.Watch l.hub l.out);
+      steps : Steps Every (at g.N.Net g.W.Watch l.fn.hub l.fn.out) (at g.N.Net g.W.Watch l.hub l.out);
       max : max_of l.reader ≡ max_of l.fn.reader;
-      grows : Grows (server l.fn.hub (net.state l.fn.out.net) (watch.told l.fn.out.watch)) (server l.hub (net.state l.out.net) (watch.told l.out.watch));
-      kept : (start : g.H.Handler.State) (config : ConfigValue) (table : RouteTable) (views : ℕ → IntakeView) → views l.conn.0 ≡ view_of l.fn.reader l.route l.param
-          → KeptAll start g.H.Handler.after g.H.Handler.said config table (server l.fn.hub (net.state l.fn.out.net) (watch.told l.fn.out.watch)) (g.H.Handler.state l.fn.handler) views (Some l.conn.0)
-          → KeptAll start g.H.Handler.after g.H.Handler.said config table (server l.hub (net.state l.out.net) (watch.told l.out.watch)) (g.H.Handler.state l.handler) (with_view l.conn.0 (view_of l.reader l.route l.param) views) (Some l.conn.0);
+      kept : (table : RouteTable) → KeepsView table l.conn.0 (Some l.conn.0) (Some l.conn.0) (view_of l.fn.reader l.route l.param) (view_of l.reader l.route l.param) (seen l.fn.hub l.fn.out l.fn.handler) (seen l.hub l.out l.handler);
     }
 
 abbrev pub decreases-steps : goal.decreases-steps

@@ -1,18 +1,50 @@
-use Rattle.std.proofs.Common.{refl}
+use Rattle.std.proofs.Common.{List, refl, ap, subst}
 use Rattle.ws_kinds.specs.declared.note.Phase.TheVariants.{Leaving}
+use Rattle.wire_meaning.specs.Event.{Event}
+use Rattle.frame_reader.specs.Step.{events_of}
+use Rattle.hub_notes.specs.Answers.{has_frames}
 use Rattle.hub_core.proofs.CallLemmas.{of_here}
-use Rattle.loop_runner.proofs.StepLemmas.{steps_one}
-use Rattle.loop_runner.proofs.FrameLemmas.{ends_reading}
+use Rattle.run_laws.specs.Readers.{IsRead}
+use Rattle.loop_runner.specs.Keeps.{beginning}
+use Rattle.loop_runner.proofs.FrameKeeps.{keep_more, keep_passed, keep_close, keep_failed}
+use Rattle.loop_runner.proofs.HeadLemmas.{ends_reading}
+use Rattle.loop_runner.proofs.StepLemmas.{steps_sends}
 use Rattle.loop_runner.proofs.frames.take_leaving.Goals as goal
 
 pub returns-in-Close-clause-steps : goal.returns-in-Close-clause-steps
-returns-in-Close-clause-steps g c = steps_one _ _ _ _ c.peer_close.ensures.proceeds c.peer_close.ensures.appends c.peer_close.ensures.ties c.peer_close.ensures.named refl
+returns-in-Close-clause-steps g c = steps_sends _ _ c.peer_close.ensures refl
 
 pub returns-in-Close-clause-last : goal.returns-in-Close-clause-last
-returns-in-Close-clause-last g c last = ends_reading c.args.conn.0 _ Leaving _ _ c.peer_close.ensures.proceeds (of_here c.args.conn.0) c.requires.phase refl refl
+returns-in-Close-clause-last g c last = ends_reading _ _ _ _ _ c.peer_close.ensures (of_here c.args.conn.0) Leaving c.requires.phase refl refl
 
 pub returns-in-Failed-clause-steps : goal.returns-in-Failed-clause-steps
-returns-in-Failed-clause-steps g c = steps_one _ _ _ _ c.failed.ensures.proceeds c.failed.ensures.appends c.failed.ensures.ties c.failed.ensures.named refl
+returns-in-Failed-clause-steps g c = steps_sends _ _ c.failed.ensures refl
 
 pub returns-in-Failed-clause-last : goal.returns-in-Failed-clause-last
-returns-in-Failed-clause-last g c last = ends_reading c.args.conn.0 _ Leaving _ _ c.failed.ensures.proceeds (of_here c.args.conn.0) c.requires.phase refl refl
+returns-in-Failed-clause-last g c last = ends_reading _ _ _ _ _ c.failed.ensures (of_here c.args.conn.0) Leaving c.requires.phase refl refl
+
+pub returns-in-More-clause-kept : goal.returns-in-More-clause-kept
+returns-in-More-clause-kept g c = λ table before after route param reads start config.
+    keep_more (beginning g.H.Handler start config table) c.args.conn.0 route param before after _ _ (ap has_frames c.requires.phase) (subst (λ (z : List Event). IsRead before z after) (ap events_of c.in-More.is) reads)
+
+pub returns-in-Message-clause-kept : goal.returns-in-Message-clause-kept
+returns-in-Message-clause-kept g c = λ table before after route param reads start config.
+    keep_passed (beginning g.H.Handler start config table) c.args.conn.0 route param before after _ _ _ c.requires.phase refl (subst (λ (z : List Event). IsRead before z after) (ap events_of c.in-Message.is) reads)
+
+pub returns-in-Ping-clause-kept : goal.returns-in-Ping-clause-kept
+returns-in-Ping-clause-kept g c = λ table before after route param reads start config.
+    keep_passed (beginning g.H.Handler start config table) c.args.conn.0 route param before after _ _ _ c.requires.phase refl (subst (λ (z : List Event). IsRead before z after) (ap events_of c.in-Ping.is) reads)
+
+pub returns-in-Pong-clause-kept : goal.returns-in-Pong-clause-kept
+returns-in-Pong-clause-kept g c = λ table before after route param reads start config.
+    keep_passed (beginning g.H.Handler start config table) c.args.conn.0 route param before after _ _ _ c.requires.phase refl (subst (λ (z : List Event). IsRead before z after) (ap events_of c.in-Pong.is) reads)
+
+pub returns-in-Close-clause-kept : goal.returns-in-Close-clause-kept
+returns-in-Close-clause-kept g c = λ table before after route param reads start config.
+    keep_close (beginning g.H.Handler start config table) c.args.conn.0 route param before after _ _ c.in-Close.code c.in-Close.reason.now _ (ap has_frames c.requires.phase)
+    (subst (λ (z : List Event). IsRead before z after) (ap events_of c.in-Close.is) reads) c.peer_close.ensures
+
+pub returns-in-Failed-clause-kept : goal.returns-in-Failed-clause-kept
+returns-in-Failed-clause-kept g c = λ table before after route param reads start config.
+    keep_failed (beginning g.H.Handler start config table) c.args.conn.0 route param before after _ _ c.in-Failed.code _ (ap has_frames c.requires.phase)
+    (subst (λ (z : List Event). IsRead before z after) (ap events_of c.in-Failed.is) reads) c.failed.ensures

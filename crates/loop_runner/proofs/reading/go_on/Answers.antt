@@ -1,19 +1,20 @@
-use Rattle.std.proofs.Common.{◌≡◌, ℕ, List, Some, None, ◌∙◌, subst}
-use Rattle.hub_lines.specs.State.{server}
-use Rattle.loop_runner.specs.Keeps.{KeptAll, view_of, with_view}
+use Rattle.std.proofs.Common.{List, ℕ, Some, None, ◌∙◌, subst}
+use Rattle.hub_core.specs.At.{at}
+use Rattle.loop_runner.specs.Keeps.{beginning, view_of}
+use Rattle.loop_runner.specs.Moments.{KeepsOne}
 use Rattle.loop_runner.proofs.StepLemmas.{steps_but}
 use Rattle.loop_runner.proofs.reading.go_on.Goals as goal
 
-pub returns-clause-steps : goal.returns-clause-steps
-returns-clause-steps g c = steps_but c.args.conn.0 _ _ c.read_frames.ensures.steps
-
-pub returns-clause-asked : goal.returns-clause-asked
-returns-clause-asked g c reads = c.read_frames.ensures.steps.due c.args.conn.0 (tt {0}) reads ∙ c.requires.asked
+pub returns-clause-takes : goal.returns-clause-takes
+returns-clause-takes g c = record {
+  steps = steps_but c.args.conn.0 _ _ c.read_frames.ensures.steps;
+  asked = λ reads. c.read_frames.ensures.steps.due c.args.conn.0 (tt {0}) reads ∙ c.requires.asked;
+  taken = c.read_frames.ensures.taken;
+  max = c.read_frames.ensures.max;
+}
 
 pub returns-clause-kept : goal.returns-clause-kept
-returns-clause-kept g c start config table views =
-    subst (λ (z : List ℕ). views c.args.conn.0 ≡ view_of c.args.intake.now.reader c.args.intake.now.route z
-    → KeptAll start g.H.Handler.after g.H.Handler.said config table (server c.args.hub.now (g.N.Net.state c.args.out.now.net) (g.W.Watch.told c.args.out.now.watch)) (g.H.Handler.state c.args.handler.now) views (Some c.args.conn.0)
-    → KeptAll start g.H.Handler.after g.H.Handler.said config table (server c.read_frames.new.hub (g.N.Net.state c.read_frames.new.out.net) (g.W.Watch.told c.read_frames.new.out.watch)) (g.H.Handler.state c.read_frames.new.handler)
-    (with_view c.args.conn.0 (view_of c.read_frames.new.reader c.args.intake.now.route z) views) None)
-    c.as_slice.ensures.value (c.read_frames.ensures.kept start config table views)
+returns-clause-kept g c = λ table start config.
+    subst (λ (z : List ℕ). KeepsOne (beginning g.H.Handler start config table) c.args.conn.0 (Some c.args.conn.0) None (view_of c.args.intake.now.reader c.args.intake.now.route z) (view_of c.read_frames.new.reader c.args.intake.now.route z)
+    (at g.N.Net g.W.Watch c.args.hub.now c.args.out.now) (g.H.Handler.state c.args.handler.now) (at g.N.Net g.W.Watch c.read_frames.new.hub c.read_frames.new.out) (g.H.Handler.state c.read_frames.new.handler))
+    c.as_slice.ensures.value (c.read_frames.ensures.kept table start config)

@@ -1,49 +1,63 @@
-use Rattle.std.proofs.Common.{ℕ, refl, None, subst}
+use Rattle.std.proofs.Common.{ℕ, refl, subst, rules}
 use Rattle.link_trait.specs.Net.{Reads}
 use Rattle.link_trait.specs.declared.net.NetRead.TheVariants as NetRead
-use Rattle.hub_lines.specs.State.{server}
-use Rattle.loop_runner.specs.Keeps.{intake_view}
-use Rattle.loop_runner.specs.Steps.{Every, But}
-use Rattle.loop_runner.proofs.StepLemmas.{rises_by, steps_of, steps_then, steps_but, steps_makes}
-use Rattle.loop_runner.proofs.RunningLemmas.{steps_read}
-use Rattle.loop_runner.proofs.GrowLemmas.{grows_then}
-use Rattle.loop_runner.proofs.ReadKeepLemmas.{count_of, front_of, grows_read, view_same, kept_views, kept_later, kept_ended, kept_failed}
+use Rattle.ws_kinds.specs.declared.note.Left.TheVariants.{PeerEnd, LinkFailed}
+use Rattle.run_meaning.specs.Settled.{is_reading}
+use Rattle.hub_lines.specs.State.{phase_at}
+use Rattle.hub_notes.proofs.BoolLemmas.{clash}
+use Rattle.loop_runner.specs.Keeps.{beginning}
+use Rattle.loop_runner.specs.Steps.{But}
+use Rattle.loop_runner.proofs.HeadLemmas.{gone_now}
+use Rattle.loop_runner.proofs.RunningLemmas.{taken_away}
+use Rattle.loop_runner.proofs.ReadKeepLemmas.{count_of, front_of, keep_later, keep_gone, keep_lost}
+use Rattle.loop_runner.proofs.StepLemmas.{steps_then, steps_but, steps_notes, steps_lost}
+use Rattle.loop_runner.proofs.TurnLemmas.{steps_read}
 use Rattle.loop_runner.proofs.reading.read.Goals as goal
 
-pub returns-in-End-clause-steps : goal.returns-in-End-clause-steps
-returns-in-End-clause-steps g c =
-    steps_then (But c.args.conn.0) _ _ _ (steps_read c.args.conn.0 _ _ _ _ _ _ c.read.ensures)
-    (steps_but c.args.conn.0 _ _ (steps_makes _ _ _ _ c.ended.ensures.makes c.ended.ensures.appends c.ended.ensures.ties c.ended.ensures.named refl))
+pub returns-in-Octets-clause-takes : goal.returns-in-Octets-clause-takes
+returns-in-Octets-clause-takes g c =
+    let takes = c.take.ensures.takes in
+    record { steps = steps_then (But c.args.conn.0) _ _ _ (steps_read c.args.conn.0 _ _ _ _ _ _ c.read.ensures) takes.steps; asked = takes.asked; taken = takes.taken; max = takes.max }
 
-pub returns-in-Failed-clause-steps : goal.returns-in-Failed-clause-steps
-returns-in-Failed-clause-steps g c =
-    steps_then (But c.args.conn.0) _ _ _ (steps_read c.args.conn.0 _ _ _ _ _ _ c.read.ensures)
-    (steps_but c.args.conn.0 _ _
-    (steps_of Every _ _ _ _ c.link_failed.ensures.advances (rises_by _ _ _ c.link_failed.ensures.fails.faults) c.link_failed.ensures.appends c.link_failed.ensures.ties c.link_failed.ensures.named (λ d _. refl) refl))
+pub returns-in-End-clause-takes : goal.returns-in-End-clause-takes
+returns-in-End-clause-takes g c =
+    let away = gone_now c.args.conn.0 PeerEnd _ _ c.ended.ensures.makes.advances in
+    record {
+      steps = steps_then (But c.args.conn.0) _ _ _ (steps_read c.args.conn.0 _ _ _ _ _ _ c.read.ensures) (steps_but c.args.conn.0 _ _ (steps_notes _ _ c.ended.ensures refl));
+      asked = λ reads. clash (is_reading (phase_at c.ended.new.self c.args.conn.0)) away reads;
+      taken = taken_away _ c.args.intake.now.reader away;
+      max = refl;
+    }
 
-pub returns-in-Octets-clause-grows : goal.returns-in-Octets-clause-grows
-returns-in-Octets-clause-grows g c = grows_then _ _ _ (grows_read c.args.conn.0 _ _ _ _ _ _ c.read.ensures) c.take.ensures.grows
+pub returns-in-Failed-clause-takes : goal.returns-in-Failed-clause-takes
+returns-in-Failed-clause-takes g c =
+    let away = gone_now c.args.conn.0 LinkFailed _ _ c.link_failed.ensures.advances in
+    record {
+      steps = steps_then (But c.args.conn.0) _ _ _ (steps_read c.args.conn.0 _ _ _ _ _ _ c.read.ensures) (steps_but c.args.conn.0 _ _ (steps_lost _ _ c.link_failed.ensures));
+      asked = λ reads. clash (is_reading (phase_at c.link_failed.new.self c.args.conn.0)) away reads;
+      taken = taken_away _ c.args.intake.now.reader away;
+      max = refl;
+    }
+
+pub returns-in-Later-clause-takes : goal.returns-in-Later-clause-takes
+returns-in-Later-clause-takes g c = record { steps = steps_read c.args.conn.0 _ _ _ _ _ _ c.read.ensures; asked = λ reads. c.read.ensures.due; taken = c.requires.taken; max = refl }
 
 pub returns-in-Octets-clause-kept : goal.returns-in-Octets-clause-kept
-returns-in-Octets-clause-kept g c start config views here k =
+returns-in-Octets-clause-kept g c = λ start config.
     let within = c.in-Octets.ensures.within.1 in
-    c.take.ensures.kept start config views c.read.new.room (g.N.Net.state c.args.out.now.net)
-    (front_of c.in-Octets.count c.read.new.room _ within)
-    (subst (λ (z : ℕ). Reads c.args.conn.0 c.read.new.room (NetRead.Octets z) (g.N.Net.state c.args.out.now.net) (g.N.Net.state c.read.new.self)) (count_of c.in-Octets.count c.read.new.room _ within) c.in-Octets.ensures) here k
+    c.take.ensures.kept c.read.new.room (g.N.Net.state c.args.out.now.net) (front_of c.in-Octets.count c.read.new.room _ within)
+    (subst (λ (z : ℕ). Reads c.args.conn.0 c.read.new.room (NetRead.Octets z) (g.N.Net.state c.args.out.now.net) (g.N.Net.state c.read.new.self)) (count_of c.in-Octets.count c.read.new.room _ within) c.in-Octets.ensures) start config
 
 pub returns-in-End-clause-kept : goal.returns-in-End-clause-kept
-returns-in-End-clause-kept g c start config views here k =
-    kept_views start g.H.Handler.after g.H.Handler.said config c.args.routes.now (server c.ended.new.self (g.N.Net.state c.ended.new.out.net) (g.W.Watch.told c.ended.new.out.watch)) _ views _ None (view_same c.args.conn.0 (intake_view c.args.intake.now) views here)
-    (kept_ended start g.H.Handler.after g.H.Handler.said config c.args.routes.now c.args.conn.0 c.read.new.room (server c.args.hub.now (g.N.Net.state c.args.out.now.net) (g.W.Watch.told c.args.out.now.watch)) (server c.ended.new.self (g.N.Net.state c.ended.new.out.net) (g.W.Watch.told c.ended.new.out.watch)) (g.N.Net.state c.read.new.self) (g.H.Handler.state c.args.handler.now) views
-    c.in-End.ensures c.requires.reading c.ended.ensures.makes c.ended.ensures.appends c.ended.ensures.table k)
+returns-in-End-clause-kept g c = λ start config.
+    keep_gone (beginning g.H.Handler start config c.args.routes.now) c.args.conn.0 c.read.new.room c.args.hub.now (g.N.Net.state c.args.out.now.net) (g.N.Net.state c.read.new.self) (g.W.Watch.told c.args.out.now.watch) _ _ _
+    c.requires.reading c.in-End.ensures c.ended.ensures
 
 pub returns-in-Failed-clause-kept : goal.returns-in-Failed-clause-kept
-returns-in-Failed-clause-kept g c start config views here k =
-    kept_views start g.H.Handler.after g.H.Handler.said config c.args.routes.now (server c.link_failed.new.self (g.N.Net.state c.link_failed.new.out.net) (g.W.Watch.told c.link_failed.new.out.watch)) _ views _ None (view_same c.args.conn.0 (intake_view c.args.intake.now) views here)
-    (kept_failed start g.H.Handler.after g.H.Handler.said config c.args.routes.now c.args.conn.0 c.read.new.room (server c.args.hub.now (g.N.Net.state c.args.out.now.net) (g.W.Watch.told c.args.out.now.watch)) (server c.link_failed.new.self (g.N.Net.state c.link_failed.new.out.net) (g.W.Watch.told c.link_failed.new.out.watch)) (g.N.Net.state c.read.new.self) (g.H.Handler.state c.args.handler.now) views
-    c.in-Failed.ensures c.requires.reading c.link_failed.ensures.advances c.link_failed.ensures.fails c.link_failed.ensures.appends c.link_failed.ensures.table k)
+returns-in-Failed-clause-kept g c = λ start config.
+    keep_lost (beginning g.H.Handler start config c.args.routes.now) c.args.conn.0 c.read.new.room c.args.hub.now (g.N.Net.state c.args.out.now.net) (g.N.Net.state c.read.new.self) (g.W.Watch.told c.args.out.now.watch) _ _ _
+    c.requires.reading c.in-Failed.ensures c.link_failed.ensures
 
 pub returns-in-Later-clause-kept : goal.returns-in-Later-clause-kept
-returns-in-Later-clause-kept g c start config views here k =
-    kept_views start g.H.Handler.after g.H.Handler.said config c.args.routes.now (server c.args.hub.now (g.N.Net.state c.read.new.self) (g.W.Watch.told c.args.out.now.watch)) _ views _ None (view_same c.args.conn.0 (intake_view c.args.intake.now) views here)
-    (kept_later start g.H.Handler.after g.H.Handler.said config c.args.routes.now c.args.conn.0 c.read.new.room c.args.hub.now (g.N.Net.state c.args.out.now.net) (g.N.Net.state c.read.new.self) (g.W.Watch.told c.args.out.now.watch) (g.H.Handler.state c.args.handler.now) views c.in-Later.ensures k)
+returns-in-Later-clause-kept g c = λ start config.
+    keep_later (beginning g.H.Handler start config c.args.routes.now) c.args.conn.0 c.read.new.room c.args.hub.now (g.N.Net.state c.args.out.now.net) (g.N.Net.state c.read.new.self) (g.W.Watch.told c.args.out.now.watch) _ _ c.in-Later.ensures

@@ -5,9 +5,4 @@ use Rattle.loop_runner.proofs.TurnLemmas.{ready_new}
 use Rattle.loop_runner.proofs.tests.run_with.Goals as goal
 
 pub run-ran-requires : goal.run-ran-requires
-run-ran-requires g c =
-    let max : c.in_ok-hub.hub.config.max_message ≡ max_of c.new-intakes.result = search rules in
-    let entries : c.in_ok-hub.hub.entries ≡ [] = search rules in
-    let named : c.in_ok-hub.hub.named ≡ 0 = search rules in
-    let settled : Settled c.in_ok-hub.hub = search rules in
-    record { ready = ready_new c.new-intakes.result c.in_ok-hub.hub _ _ max entries named settled c.new-intakes.ensures.none }
+run-ran-requires g c = ready_new c.new-intakes.result _ _ _ (search rules) (search rules) (search rules) (search rules) (search rules) c.new-intakes.ensures.none

@@ -1,63 +1,45 @@
-use Rattle.hub_lines.specs.State.{server}
-use Rattle.loop_runner.specs.Steps.{Every}
-use Rattle.loop_runner.proofs.TurnLemmas.{passes_then, passes_turn, passes_steps, fails_then}
-use Rattle.loop_runner.proofs.GrowLemmas.{grows_then as grows_on}
-use Rattle.loop_runner.proofs.TurnKeeps.{few_passes, few_turned, where_passes, where_turned}
-use Rattle.loop_runner.proofs.RightLemmas.{right_after, settled_turned}
-use Rattle.loop_runner.proofs.ThroughoutLemmas.{lived_after}
+use Rattle.loop_runner.specs.Moments.{moment}
+use Rattle.loop_runner.proofs.GrowLemmas.{grows_then}
+use Rattle.loop_runner.proofs.RunningLemmas.{running_begun}
+use Rattle.loop_runner.proofs.TurnKeeps.{few_passes}
+use Rattle.loop_runner.proofs.TurnLemmas.{passes_then, passes_onward}
+use Rattle.loop_runner.proofs.TurningLemmas.{kept_then, turn_made}
 use Rattle.loop_runner.proofs.turn.run_turn.Goals as goal
 
+pub close_all-requires : goal.close_all-requires
+close_all-requires g c = record { running = running_begun _ _ c.requires }
+
 pub events-init : goal.events-init
-events-init g c = record { running = c.begin.ensures.running; table = c.begin.ensures.table; none = c.begin.ensures.none; there = c.begin.ensures.steps.there; passed = passes_steps Every _ _ c.begin.ensures.steps; grows = c.begin.ensures.grows; kept = λ start config views few are kept. c.begin.ensures.kept start config _ views are kept }
+events-init g c =
+    let due = c.close_all.ensures.keeps in
+    record {
+      running = due.running;
+      none = c.close_all.ensures.none;
+      there = due.steps.there;
+      passed = passes_onward _ _ due.steps.onward;
+      grows = due.steps.onward.grows;
+      kept = λ start config views few are k. due.kept c.args.routes.now start config views are k;
+    }
 
 pub events-preserved : goal.events-preserved
-events-preserved g c = record {
-  running = c.in-None.ensures.running;
-  table = c.in-None.ensures.table;
-  none = c.in-None.ensures.none;
-  there = λ there. c.take_event.ensures.there (c.events.invariant.there there);
-  passed = passes_then _ _ _ c.events.invariant.passed c.in-None.ensures.passed;
-  grows = grows_on _ _ _ c.events.invariant.grows c.take_event.ensures.grows;
-  kept = λ start config views few are kept.
-      where_passes start g.H.Handler.after g.H.Handler.said config c.args.routes.now _ c.take_event.new.intakes _ _ views c.in-None.ensures.passed
-      (λ told.
-      let x = c.events.invariant.kept start config views (few_passes _ _ c.in-None.ensures.passed told few) are kept in
-      c.take_event.ensures.kept start config x.0 few x.1 x.2);
-}
+events-preserved g c =
+    let before = c.events.invariant in
+    let taken = c.take_event.ensures in
+    let passed = c.in-None.ensures.between.passed in
+    record {
+      running = c.in-None.ensures.between.running;
+      none = c.in-None.ensures.between.none;
+      there = λ there. taken.there (before.there there);
+      passed = passes_then _ _ _ before.passed passed;
+      grows = grows_then _ _ _ before.grows taken.grows;
+      kept = kept_then c.args.routes.now c.args.intakes.now c.events.intakes c.take_event.new.intakes (moment g.N.Net g.W.Watch g.H.Handler c.args.hub.now c.args.out.now c.args.handler.now)
+          (moment g.N.Net g.W.Watch g.H.Handler c.events.hub c.events.out c.events.handler) (moment g.N.Net g.W.Watch g.H.Handler c.take_event.new.hub c.take_event.new.out c.take_event.new.handler)
+          passed.tells (few_passes _ _ passed) before.kept taken.kept;
+    }
 
-pub returns-in-Some-clause-passed : goal.returns-in-Some-clause-passed
-returns-in-Some-clause-passed g c = passes_turn c.in-Some.turned _ _ _ c.events.invariant.passed c.in-Some.ensures.ends
-
-pub returns-in-Some-clause-failed : goal.returns-in-Some-clause-failed
-returns-in-Some-clause-failed g c = fails_then c.in-Some.turned _ _ _ c.events.invariant.passed.faults c.in-Some.ensures.ends.faults c.in-Some.ensures.failed
-
-pub returns-in-Some-clause-grows : goal.returns-in-Some-clause-grows
-returns-in-Some-clause-grows g c = grows_on _ _ _ c.events.invariant.grows c.take_event.ensures.grows
-
-pub returns-in-Some-clause-kept : goal.returns-in-Some-clause-kept
-returns-in-Some-clause-kept g c = λ start config views few are kept.
-    where_turned start g.H.Handler.after g.H.Handler.said config c.args.routes.now c.in-Some.turned _ c.take_event.new.intakes _ _ views c.in-Some.ensures.ends
-    (λ told.
-    let x = c.events.invariant.kept start config views (few_turned c.in-Some.turned _ _ c.in-Some.ensures.ends told few) are kept in
-    c.take_event.ensures.kept start config x.0 few x.1 x.2)
-
-pub returns-in-Some-clause-right : goal.returns-in-Some-clause-right
-returns-in-Some-clause-right g c = λ start config views few are kept.
-    let x = returns-in-Some-clause-kept g c start config views few are kept in
-    right_after start g.H.Handler.after g.H.Handler.said config c.args.routes.now _ _ x.0 x.2 c.in-Some.ensures.ready.settled
-
-pub returns-in-Some-clause-there : goal.returns-in-Some-clause-there
-returns-in-Some-clause-there g c = λ there. c.take_event.ensures.there (c.events.invariant.there there)
-
-pub returns-in-Some-clause-settled : goal.returns-in-Some-clause-settled
-returns-in-Some-clause-settled g c = λ start config views few are kept there.
-    settled_turned start g.H.Handler.after g.H.Handler.said config c.args.routes.now c.in-Some.turned _
-    (server c.take_event.new.hub (g.N.Net.state c.take_event.new.out.net) (g.W.Watch.told c.take_event.new.out.watch)) c.in-Some.ensures.ends
-    (λ told.
-    let x = c.events.invariant.kept start config views (few_turned c.in-Some.turned _ _ c.in-Some.ensures.ends told few) are kept in
-    c.in-Some.ensures.settled start config x.0 few x.2 (c.events.invariant.there there))
-
-pub returns-in-Some-clause-throughout : goal.returns-in-Some-clause-throughout
-returns-in-Some-clause-throughout g c = λ start config views few are kept lived.
-    lived_after start g.H.Handler.after g.H.Handler.said config c.args.routes.now c.in-Some.turned _ _ _ _ views (returns-in-Some-clause-grows g c) (returns-in-Some-clause-passed g c) c.in-Some.ensures.last few kept
-    (returns-in-Some-clause-right g c start config views few are kept) lived
+pub returns-in-Some : goal.returns-in-Some
+returns-in-Some g c =
+    let before = c.events.invariant in
+    turn_made c.args.routes.now c.in-Some.turned c.args.intakes.now c.events.intakes c.take_event.new.intakes (moment g.N.Net g.W.Watch g.H.Handler c.args.hub.now c.args.out.now c.args.handler.now)
+    (moment g.N.Net g.W.Watch g.H.Handler c.events.hub c.events.out c.events.handler) (moment g.N.Net g.W.Watch g.H.Handler c.take_event.new.hub c.take_event.new.out c.take_event.new.handler)
+    before.passed before.grows before.there before.kept c.in-Some.ensures

@@ -1,5 +1,5 @@
 use Rattle.std.proofs.Common.{◌∙◌, [], List, subst}
-use Rattle.link_trait.specs.declared.schedule.Act.{Act}
+use Rattle.link_trait.specs.declared.act.Act.{Act}
 use Rattle.std.specs.List.{flat_map, AllByRecursion}
 use Rattle.std.proofs.lemmas.List.{take_all}
 use Rattle.schedule_text.specs.Spelling.{SendsOctets, spelled, schedule_text}

@@ -2,5 +2,5 @@ use Rattle.std.proofs.Common.{arith, sym}
 use Rattle.std.proofs.lemmas.List.{take_all}
 use Rattle.upgrade_head.proofs.judging.bounded.Goals as goal
 
-pub returns-then-octets-lt8192-clause-value : goal.returns-then-octets-lt8192-clause-value
-returns-then-octets-lt8192-clause-value c = sym (take_all 8192 c.args.octets.now (omega arith))
+pub returns-then-octets-lt-MOST_OCTETS-clause-value : goal.returns-then-octets-lt-MOST_OCTETS-clause-value
+returns-then-octets-lt-MOST_OCTETS-clause-value c = sym (take_all 8192 c.args.octets.now (omega arith))

@@ -1,15 +1,11 @@
-use Rattle.std.proofs.Common.{[], ◌++◌, drop, take, refl, rules, arith, length-append, length-drop, length-take, ◌∙◌}
+use Rattle.std.proofs.Common.{◌≡◌, [], ◌++◌, drop, take, length, refl, rules, arith, length-append, length-drop, length-take, ◌∙◌}
 use Rattle.std.proofs.KnownBytes.{Consumes-nil, Consumes-trans}
+use Rattle.schedule_text.specs.declared.fault.Fault.TheVariants.{TooLong}
 use Rattle.link_trait.proofs.Pieces.{TellsAlike-trans}
+use Rattle.ws_program.specs.declared.status.Status.TheVariants.{Refused}
 use Rattle.ws_program.proofs.PassLemmas.{tells_alike_same}
 use Rattle.ws_program.proofs.EchoLemmas.{stands_first, stands_short, stands_then, echo_then, done_closed, front_written, no_further, nothing_further, Piece, piece_read, echo_start, past_too_long, past_no_further, unmoved_no_further}
 use Rattle.ws_program.proofs.echo.echo_run.Goals as goal
-
-pub returns-in_default-clause-no_further : goal.returns-in_default-clause-no_further
-returns-in_default-clause-no_further g c = nothing_further c.args.max_message _
-
-pub returns-in_default-new-clause-no_further : goal.returns-in_default-new-clause-no_further
-returns-in_default-new-clause-no_further g c = nothing_further c.args.max_message _
 
 pub reads-init : goal.reads-init
 reads-init g c = record {
@@ -50,50 +46,47 @@ reads-preserved g c =
       write_unfailing = c.in-All.ensures.cause ∙ c.reads.invariant.write_unfailing;
     }
 
-pub returns-in-Closed-clause-done : goal.returns-in-Closed-clause-done
-returns-in-Closed-clause-done g c =
+pub returns-in_default : goal.returns-in_default
+returns-in_default g c =
+    let further = nothing_further c.args.max_message (g.S.Source.left c.args.source.now) in
+    search rules
+
+pub returns-in_default-new : goal.returns-in_default-new
+returns-in_default-new g c =
+    let further = nothing_further c.args.max_message (g.S.Source.left c.args.source.now) in
+    search rules
+
+pub returns-in-Closed : goal.returns-in-Closed
+returns-in-Closed g c =
     let (came, took, wrote, stands, sum) = c.reads.invariant.stands in
     let octets = take c.in-Octets.count (c.read.new.room ++ drop c.min-most.result c.reads.octets) in
     let piece : Piece (take c.in-Octets.count (c.read.new.room ++ drop c.min-most.result c.reads.octets)) c.in-Octets.count c.min-most.result (g.S.Source.left c.reads.source) (g.S.Source.left c.read.new.self) =
     piece_read c.in-Octets.count c.min-most.result c.reads.octets c.read.new.room (drop c.min-most.result c.reads.octets) _ _ c.in-Octets.ensures.within.1 c.read.auto.room c.in-Octets.ensures.octets in
     let (events, told, wrote', last) = c.in-Closed.ensures.octets in
-    λ is. done_closed c.args.max_message c.reads.left came octets c.reads.reader c.answer_octets.new.reader events _ _ _ _ _ _ stands told last took piece.took wrote wrote' sum (omega arith)
+    let done = done_closed c.args.max_message c.reads.left came octets c.reads.reader c.answer_octets.new.reader events _ _ _ _ _ _ stands told last took piece.took wrote wrote' sum (omega arith) in
+    let further = no_further c.args.max_message c.reads.left came octets c.reads.reader _ _ _ stands took piece.took sum (omega arith) (omega arith) in
+    search rules
 
-pub returns-in-Closed-clause-no_further : goal.returns-in-Closed-clause-no_further
-returns-in-Closed-clause-no_further g c =
+pub returns-in-Failed-answer_octets : goal.returns-in-Failed-answer_octets
+returns-in-Failed-answer_octets g c =
     let (came, took, wrote, stands, sum) = c.reads.invariant.stands in
     let octets = take c.in-Octets.count (c.read.new.room ++ drop c.min-most.result c.reads.octets) in
     let piece : Piece (take c.in-Octets.count (c.read.new.room ++ drop c.min-most.result c.reads.octets)) c.in-Octets.count c.min-most.result (g.S.Source.left c.reads.source) (g.S.Source.left c.read.new.self) =
     piece_read c.in-Octets.count c.min-most.result c.reads.octets c.read.new.room (drop c.min-most.result c.reads.octets) _ _ c.in-Octets.ensures.within.1 c.read.auto.room c.in-Octets.ensures.octets in
-    no_further c.args.max_message c.reads.left came octets c.reads.reader _ _ _ stands took piece.took sum (omega arith) (omega arith)
+    let front = front_written c.args.max_message came octets c.reads.reader _ _ _ _ _ _ stands took piece.took wrote c.in-Failed-answer_octets.ensures.octets in
+    let further = no_further c.args.max_message c.reads.left came octets c.reads.reader _ _ _ stands took piece.took sum (omega arith) (omega arith) in
+    search rules
 
-pub returns-in-Failed-answer_octets-clause-no_further : goal.returns-in-Failed-answer_octets-clause-no_further
-returns-in-Failed-answer_octets-clause-no_further g c =
+pub returns-in-Failed : goal.returns-in-Failed
+returns-in-Failed g c =
     let (came, took, wrote, stands, sum) = c.reads.invariant.stands in
-    let octets = take c.in-Octets.count (c.read.new.room ++ drop c.min-most.result c.reads.octets) in
-    let piece : Piece (take c.in-Octets.count (c.read.new.room ++ drop c.min-most.result c.reads.octets)) c.in-Octets.count c.min-most.result (g.S.Source.left c.reads.source) (g.S.Source.left c.read.new.self) =
-    piece_read c.in-Octets.count c.min-most.result c.reads.octets c.read.new.room (drop c.min-most.result c.reads.octets) _ _ c.in-Octets.ensures.within.1 c.read.auto.room c.in-Octets.ensures.octets in
-    no_further c.args.max_message c.reads.left came octets c.reads.reader _ _ _ stands took piece.took sum (omega arith) (omega arith)
+    let further = unmoved_no_further c.args.max_message c.reads.left came c.reads.reader _ _ _ stands took c.in-Failed.ensures.octets sum in
+    search rules
 
-pub returns-in-Failed-answer_octets-clause-write_echo : goal.returns-in-Failed-answer_octets-clause-write_echo
-returns-in-Failed-answer_octets-clause-write_echo g c =
+pub returns : goal.returns
+returns g c =
     let (came, took, wrote, stands, sum) = c.reads.invariant.stands in
-    let octets = take c.in-Octets.count (c.read.new.room ++ drop c.min-most.result c.reads.octets) in
-    let piece : Piece (take c.in-Octets.count (c.read.new.room ++ drop c.min-most.result c.reads.octets)) c.in-Octets.count c.min-most.result (g.S.Source.left c.reads.source) (g.S.Source.left c.read.new.self) =
-    piece_read c.in-Octets.count c.min-most.result c.reads.octets c.read.new.room (drop c.min-most.result c.reads.octets) _ _ c.in-Octets.ensures.within.1 c.read.auto.room c.in-Octets.ensures.octets in
-    λ is. front_written c.args.max_message came octets c.reads.reader _ _ _ _ _ _ stands took piece.took wrote c.in-Failed-answer_octets.ensures.octets
-
-pub returns-in-Failed-clause-no_further : goal.returns-in-Failed-clause-no_further
-returns-in-Failed-clause-no_further g c =
-    let (came, took, wrote, stands, sum) = c.reads.invariant.stands in
-    unmoved_no_further c.args.max_message c.reads.left came c.reads.reader _ _ _ stands took c.in-Failed.ensures.octets sum
-
-pub returns-clause-too_long : goal.returns-clause-too_long
-returns-clause-too_long g c =
-    let (came, took, wrote, stands, sum) = c.reads.invariant.stands in
-    λ is. past_too_long c.past_the_limit.result c.args.max_message came c.reads.reader _ _ _ _ _ c.past_the_limit.ensures.ends is stands took wrote (omega arith)
-
-pub returns-clause-no_further : goal.returns-clause-no_further
-returns-clause-no_further g c =
-    let (came, took, wrote, stands, sum) = c.reads.invariant.stands in
-    past_no_further c.past_the_limit.result c.args.max_message came c.reads.reader _ _ _ c.past_the_limit.ensures.ends stands took (omega arith)
+    let full : length came ≡ 67108864 = omega arith in
+    let further = past_no_further c.past_the_limit.result c.args.max_message came c.reads.reader _ _ _ _ _ c.past_the_limit.ensures.ends stands took full in
+    let long = λ (is : c.past_the_limit.result ≡ Refused 0 TooLong). past_too_long c.past_the_limit.result c.args.max_message came c.reads.reader _ _ _ _ _ _ _ c.past_the_limit.ensures.ends is stands took wrote full in
+    search rules

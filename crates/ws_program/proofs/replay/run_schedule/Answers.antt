@@ -1,13 +1,13 @@
 use Rattle.std.proofs.Common.{◌≡◌, ◌+◌, ◌∙◌, ℕ, List, [], ap, subst, arith}
 use Rattle.std.specs.List.{count_by}
-use Rattle.link_trait.specs.declared.schedule.Act.{Act}
-use Rattle.link_trait.specs.MemNet.{net_state}
+use Rattle.link_trait.specs.declared.act.Act.{Act}
+use Rattle.mem_net.specs.MemNet.{net_state}
 use Rattle.ws_kinds.specs.Recorder.{told_by}
 use Rattle.route_table.specs.Table.{RouteTable}
 use Rattle.hub_lines.specs.State.{server}
-use Rattle.loop_runner.specs.Keeps.{IsRight, IsSettled, view_of}
-use Rattle.run_replayed.specs.Replayed.{is_turn_act}
-use Rattle.ws_program.proofs.RunLemmas.{after_echo, said_by_echo, never_spent, never_failed, few_passed, has_run, kept_first, views_at_first, there_at_first}
+use Rattle.loop_runner.specs.Keeps.{IsRight, IsSettled}
+use Rattle.ws_program.specs.Replayed.{is_turn_act}
+use Rattle.ws_program.proofs.RunLemmas.{echo_beginning, no_views, never_spent, never_failed, few_passed, has_run, kept_first, views_at_first, there_at_first}
 use Rattle.ws_program.proofs.replay.run_schedule.Goals as goal
 
 pub unreachable-requires : goal.unreachable-requires
@@ -30,12 +30,11 @@ returns c =
     let watch = c.run-ran.new.out.watch in
     let start = c.in_ok-net.net in
     let turns = c.turns_of.result + 1 in
-    let views = λ (_ : ℕ). view_of c.in_ok-reader.reader 0 [] in
     let few = few_passed f acts hub net watch start c.in_ok-net.ensures c.requires c.is_whole.ensures.follows c.run-ran.ensures.grows.schedule turns c.in-Stopped.field-0 c.in-Stopped.ensures.runs in
-    let are = views_at_first c.new-intakes.result c.in_ok-reader.reader c.new-intakes.ensures.none in
-    let kept = kept_first f acts c.in_ok-routes.routes c.in_ok-hub.hub start c.new-watch.result c.in_ok-reader.reader c.in_ok-hub.ensures.config c.in_ok-hub.ensures.entries c.in_ok-hub.ensures.partings c.in_ok-net.ensures c.new-watch.ensures in
+    let are = views_at_first c.new-intakes.result c.new-intakes.ensures.none in
+    let kept = kept_first f acts c.in_ok-routes.routes c.in_ok-hub.hub start c.new-watch.result c.in_ok-hub.ensures.config c.in_ok-hub.ensures.entries c.in_ok-hub.ensures.pairs c.in_ok-hub.ensures.partings c.in_ok-net.ensures c.new-watch.ensures in
     let there = there_at_first acts c.in_ok-hub.hub start (told_by c.new-watch.result) c.in_ok-net.ensures in
     has_run f acts hub net watch start c.in_ok-net.ensures c.requires c.is_whole.ensures.follows c.run-ran.ensures.grows.schedule turns c.in-Stopped.field-0 c.in-Stopped.ensures.runs
     c.run-ran.ensures.ready.settled (c.is_whole.ensures.watch c.if-not-is_whole.false) (c.is_whole.ensures.net c.if-not-is_whole.false) c.is_whole.ensures.few (c.run-ran.ensures.last (omega arith))
-    (subst (λ (t : RouteTable). IsRight (tt {0}) after_echo said_by_echo f t (server hub (net_state net) (told_by watch)) (tt {0})) c.in_ok-routes.ensures (c.run-ran.ensures.right (tt {0}) f views few are kept))
-    (subst (λ (t : RouteTable). IsSettled (tt {0}) after_echo said_by_echo f t (server hub (net_state net) (told_by watch))) c.in_ok-routes.ensures (c.run-ran.ensures.settled (tt {0}) f views (omega arith) few are kept there))
+    (subst (λ (t : RouteTable). IsRight (echo_beginning f t) (server hub (net_state net) (told_by watch)) (tt {0})) c.in_ok-routes.ensures (c.run-ran.ensures.right (tt {0}) f no_views few are kept))
+    (subst (λ (t : RouteTable). IsSettled (echo_beginning f t) (server hub (net_state net) (told_by watch))) c.in_ok-routes.ensures (c.run-ran.ensures.settled (omega arith) (tt {0}) f no_views few are kept there))

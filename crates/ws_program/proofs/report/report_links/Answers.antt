@@ -1,6 +1,6 @@
 use Rattle.std.proofs.Common.{sym}
 use Rattle.ws_kinds.specs.NoteValue.{note_value}
-use Rattle.link_trait.specs.MemNet.{net_state}
+use Rattle.mem_net.specs.MemNet.{net_state}
 use Rattle.run_kept.specs.Ends.{backlog_at}
 use Rattle.ws_program.proofs.ReportLemmas.{links_grow, links_fail}
 use Rattle.ws_program.proofs.report.report_links.Goals as goal

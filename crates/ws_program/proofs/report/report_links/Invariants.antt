@@ -1,8 +1,8 @@
 use Rattle.std.specs.Prelude.{take, true}
-use Rattle.link_trait.specs.MemNet.{net_state}
+use Rattle.mem_net.specs.MemNet.{net_state}
 use Rattle.schedule_text.specs.Output.{WritesText}
 use Rattle.run_kept.specs.Ends.{backlog_at}
-use Rattle.run_replayed.specs.Replayed.{links_of, all_link_lines}
+use Rattle.ws_program.specs.Replayed.{links_of, all_link_lines}
 use Rattle.ws_program.proofs.report.report_links.Given as goal
 
 abbrev pub invariant-notes : goal.invariant-notes

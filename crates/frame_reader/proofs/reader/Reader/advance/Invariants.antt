@@ -1,14 +1,14 @@
 use Rattle.std.proofs.Common.{[], ◌≡◌}
 use Rattle.frame_reader.specs.Reader.{has_ended}
-use Rattle.frame_reader.specs.Turn.{Tells, Keeps, burden}
+use Rattle.frame_reader.specs.Parsed.{Tells, Keeps, burden}
 use Rattle.frame_reader.proofs.reader.Reader.advance.Given as goal
 
-abbrev pub invariant-turns : goal.invariant-turns
-invariant-turns l = record {
+abbrev pub invariant-parts : goal.invariant-parts
+invariant-parts l = record {
   tells : Tells l.initial.self [] l.self;
   kept : Keeps l.initial.self l.self;
   ended : has_ended l.self ≡ has_ended l.initial.self;
 }
 
-abbrev pub decreases-turns : goal.decreases-turns
-decreases-turns l = burden l.self
+abbrev pub decreases-parts : goal.decreases-parts
+decreases-parts l = burden l.self

@@ -1,8 +1,9 @@
-use Rattle.std.proofs.Common.{◌≡◌, ◌+◌, ◌-◌, ◌%◌, ◌++◌, ℕ, List, ap, ◌∙◌, arith, take, drop, length-drop}
+use Rattle.std.proofs.Common.{◌≡◌, ◌+◌, ◌-◌, ◌++◌, ℕ, List, ap, sym, ◌∙◌, arith, take, drop, length-drop}
 use Rattle.wire_meaning.specs.Mask.{unmasked}
 use Rattle.wire_meaning.specs.Reading.{events_from, reads}
 use Rattle.frame_reader.specs.State.{is_text_open, middle_of, coming}
-use Rattle.frame_reader.proofs.MiddleLemmas.{took}
+use Rattle.frame_reader.specs.Middle.{middle_front}
+use Rattle.frame_reader.proofs.MiddleLemmas.{took, middle_at}
 use Rattle.frame_reader.proofs.StepLemmas.{held_and_rest, text_test}
 use Rattle.frame_reader.proofs.reader.Reader.take_payload.Goals as goal
 
@@ -17,10 +18,15 @@ returns-clause-tells c = λ more.
     c.append_unmasked.ensures.items
     ∙ ap (λ (l : List ℕ). c.args.self.now.message.items ++ unmasked c.args.frame.key c.args.frame.place (take (c.args.self.now.start + c.min-count.result - c.args.self.now.start) (drop c.args.self.now.start l))) c.deref.ensures.value
     ∙ ap (λ (n : ℕ). c.args.self.now.message.items ++ unmasked c.args.frame.key c.args.frame.place (take n (drop c.args.self.now.start c.args.self.now.raw.items))) span in
+    let next = c.after-next.ensures in
+    let same : middle_of c.args.kind c.after-next.result c.append_unmasked.new.message.items
+    ≡ middle_at (middle_of c.args.kind c.args.frame c.args.self.now.message.items) c.append_unmasked.new.message.items (c.args.frame.left - c.min-count.result) c.after-next.result.place =
+    λ i. record { final = next.is_final i; kind = c.args.kind; all = c.append_unmasked.new.message.items; left = next.left i; key = next.key i; place = c.after-next.result.place } in
     ap (λ s. coming c.args.self.now.max_message s c.args.self.now.message.items (drop c.args.self.now.start c.args.self.now.raw.items ++ more)) c.requires
     ∙ ap (events_from (reads c.args.self.now.max_message))
-    (took (middle_of c.args.kind c.args.frame c.args.self.now.message.items) c.args.self.now.raw.items c.append_unmasked.new.message.items c.args.self.now.start c.min-count.result ((c.args.frame.place + c.min-count.result % 4) % 4)
-    (omega arith) (omega (arith, length-drop c.args.self.now.start c.args.self.now.raw.items)) all (omega arith) more)
+    (took (middle_of c.args.kind c.args.frame c.args.self.now.message.items) c.args.self.now.raw.items c.append_unmasked.new.message.items c.args.self.now.start c.min-count.result c.after-next.result.place
+    (omega arith) (omega (arith, length-drop c.args.self.now.start c.args.self.now.raw.items)) all (omega (arith, next.place)) more
+    ∙ ap (λ m. middle_front m (drop (c.args.self.now.start + c.min-count.result) c.args.self.now.raw.items ++ more)) (sym same))
 
 pub returns-clause-text : goal.returns-clause-text
 returns-clause-text c =

@@ -1,22 +1,24 @@
-use Rattle.std.proofs.Common.{◌≡◌, ◌≢◌, ◌<◌, ◌≤◌, ℕ, refl, sym, ap, ◌∙◌, subst}
+use Rattle.std.proofs.Common.{◌≡◌, ◌≢◌, ◌<◌, ◌≤◌, ℕ, [], refl, sym, ap, ◌∙◌, subst}
 use Rattle.ws_kinds.specs.declared.note.Phase.TheVariants.{Ending}
-use Rattle.hub_lines.specs.State.{HubState, server, entry_at}
-use Rattle.hub_core.proofs.TurnLemmas.{none_at_zero, finishing_step, finishing_ends, appends_finished, is_known}
+use Rattle.run_meaning.specs.Tell.{nothing_told}
+use Rattle.hub_lines.specs.State.{HubState, server, entry_at, ring_at}
+use Rattle.hub_notes.specs.Tells.{tell_at}
+use Rattle.hub_notes.specs.Table.{IsTable, table_of}
+use Rattle.hub_core.proofs.TurnLemmas.{none_at_zero, finishing_step, finishing_ends, appends_finished, none_told, is_known}
 use Rattle.hub_core.proofs.hub.Hub.end_turn.Goals as goal
 
 pub walk-init : goal.walk-init
 walk-init g c = record {
   ties = c.requires.ties;
   named = refl;
-  finishing = rw (← c.self.view_is) (none_at_zero c.self.inside.table (g.N.Net.state c.args.out.now.net) (g.W.Watch.told c.args.out.now.watch) c.self.invariant);
+  finishing = rw (← c.self.view_is) (none_at_zero _ (g.N.Net.state c.args.out.now.net) (g.W.Watch.told c.args.out.now.watch) c.self.invariant);
 }
 
 pub walk-preserved : goal.walk-preserved
 walk-preserved g c =
-    let inside = c.self-in-walk.inside.table in
     let next = c.in-Some.ensures in
     let ending : (entry_at c.walk.self c.in-Some.conn.0).phase ≡ Ending = ap (λ (z : HubState). (entry_at z c.in-Some.conn.0).phase) (sym c.self-in-walk.view_is) ∙ next.1 in
-    let known : c.in-Some.conn.0 ≤ c.walk.self.named = subst (λ (z : HubState). c.in-Some.conn.0 ≤ z.named) c.self-in-walk.view_is (is_known inside c.in-Some.conn.0 c.self-in-walk.invariant next.1) in
+    let known : c.in-Some.conn.0 ≤ c.walk.self.named = is_known c.walk.self c.in-Some.conn.0 (subst (λ (z : HubState). IsTable (table_of z)) c.self-in-walk.view_is c.self-in-walk.invariant) ending in
     record {
       ties = c.finish.ensures.ties;
       named = c.finish.ensures.named ∙ c.walk.invariant.named;
@@ -27,10 +29,10 @@ walk-preserved g c =
 
 pub returns-clause-ends : goal.returns-clause-ends
 returns-clause-ends g c =
-    finishing_ends c.walk.after.0 (server c.args.self.now (g.N.Net.state c.args.out.now.net) (g.W.Watch.told c.args.out.now.watch)) c.walk.self (g.N.Net.state c.walk.out.net) (g.W.Watch.told c.walk.out.watch) (g.W.Watch.told c.note.new.self)
-    c.walk.invariant.finishing (subst (λ (z : HubState). (d : ℕ) → c.walk.after.0 < d → (entry_at z d).phase ≢ Ending) c.self-in-walk.view_is c.in_default.ensures) c.note.ensures
+    let rings : (d : ℕ) → ring_at c.walk.self d ≡ [] = subst (λ (z : HubState). (d : ℕ) → ring_at z d ≡ []) c.self-2.view_is c.no_rings.ensures in
+    let none : (d : ℕ) → tell_at c.walk.self d ≡ nothing_told = subst (λ (z : HubState). (d : ℕ) → tell_at z d ≡ nothing_told) c.self-in-walk.view_is (λ d. refl) in
+    finishing_ends c.walk.invariant.finishing c.walk.self.tellings (g.W.Watch.told c.note.new.self) c.note.ensures
+    (subst (λ (z : HubState). (d : ℕ) → c.walk.after.0 < d → (entry_at z d).phase ≢ Ending) c.self-in-walk.view_is c.in_default.ensures) (none_told c.walk.self rings none)
 
 pub returns-clause-appends : goal.returns-clause-appends
-returns-clause-appends g c =
-    appends_finished c.walk.after.0 (server c.args.self.now (g.N.Net.state c.args.out.now.net) (g.W.Watch.told c.args.out.now.watch)) c.walk.self (g.N.Net.state c.walk.out.net) (g.W.Watch.told c.walk.out.watch) (g.W.Watch.told c.note.new.self)
-    c.walk.invariant.finishing c.note.ensures
+returns-clause-appends g c = appends_finished c.walk.invariant.finishing c.walk.self.tellings (g.W.Watch.told c.note.new.self) c.note.ensures

@@ -1,34 +1,25 @@
-use Rattle.std.proofs.Common.{◌≡◌, false, not, ap, ◌∙◌}
-use Rattle.hub_lines.specs.State.{HubState, entry_of, is_gone}
-use Rattle.hub_core.proofs.TableSteps.{Leaves}
+use Rattle.std.proofs.Common.{◌≡◌, ◌++◌, [], ℕ, List, Some, false, not, refl, ap, ◌∙◌}
+use Rattle.ws_kinds.specs.declared.note.Phase.TheVariants.{Gone}
+use Rattle.hub_lines.specs.State.{HubState, server, entry_of, is_gone}
+use Rattle.hub_core.specs.Changes.{Leaves}
+use Rattle.hub_core.specs.State.{hub_of}
+use Rattle.hub_core.proofs.StateLemmas.{plain_change}
 use Rattle.hub_core.proofs.NoteLemmas.{falsely}
-use Rattle.hub_core.proofs.LeaveLemmas.{leave_advances, leave_fails_none, leave_fails, leave_appends, leave_elsewhere_of, leave_ties, leave_takes_all}
-use Rattle.hub_core.proofs.hub.Hub.leave.Given as given
+use Rattle.hub_core.proofs.LeaveLemmas.{goes, no_topics}
 use Rattle.hub_core.proofs.hub.Hub.leave.Goals as goal
 
-left : (g : given.Over) (c : goal.After-leave g) → Leaves c.args.conn.0 c.args.left c.self.inside.table c.leave.new.self (g.N.Net.state c.args.out.now.net) (g.N.Net.state c.shut.new.self) (g.W.Watch.told c.args.out.now.watch) (g.W.Watch.told c.note.new.self)
-left g c = record { gone = c.leave.ensures.gone; due = c.leave.ensures.due; change = c.leave.ensures.elsewhere; shuts = c.shut.ensures; noted = c.note.ensures }
-
-there : (g : given.Over) (c : goal.After-leave g) → is_gone (entry_of c.self.inside.table.entries c.args.conn.0).phase ≡ false
-there g c = falsely (is_gone (entry_of c.self.inside.table.entries c.args.conn.0).phase) (ap (λ (z : HubState). not (is_gone (entry_of z.entries c.args.conn.0).phase)) c.self.view_is ∙ c.requires.present)
-
-pub returns-clause-advances : goal.returns-clause-advances
-returns-clause-advances g c = rw (← c.self.view_is) (leave_advances (left g c) (there g c))
-
-pub returns-clause-quiet : goal.returns-clause-quiet
-returns-clause-quiet g c = leave_fails_none (left g c)
-
-pub returns-clause-fails : goal.returns-clause-fails
-returns-clause-fails g c = leave_fails (left g c)
-
-pub returns-clause-appends : goal.returns-clause-appends
-returns-clause-appends g c = rw (← c.self.view_is) (leave_appends (left g c) (there g c))
-
-pub returns-clause-elsewhere : goal.returns-clause-elsewhere
-returns-clause-elsewhere g c = rw (← c.self.view_is) (leave_elsewhere_of (left g c) c.self.invariant c.leave.ensures.table)
-
-pub returns-clause-ties : goal.returns-clause-ties
-returns-clause-ties g c = rw (← c.self.view_is) (leave_ties (left g c))
-
-pub returns-clause-whole : goal.returns-clause-whole
-returns-clause-whole g c = rw (← c.self.view_is) (leave_takes_all (left g c))
+pub returns : goal.returns
+returns g c =
+    let left : Leaves c.args.conn.0 c.args.left (server (hub_of c.self.inside.table) (g.N.Net.state c.args.out.now.net) (g.W.Watch.told c.args.out.now.watch)) (server (hub_of c.leave.new.self) (g.N.Net.state c.shut.new.self) (g.W.Watch.told c.note.new.self)) =
+    record {
+      gone = c.leave.ensures.gone;
+      due = c.leave.ensures.due;
+      topics = no_topics (Some (entry_of c.self.inside.table.entries c.args.conn.0).phase) (Some Gone);
+      tells = refl;
+      change = plain_change c.args.conn.0 c.self.inside.table c.leave.new.self c.leave.ensures.elsewhere;
+      shuts = c.shut.ensures;
+      noted = c.note.ensures;
+    } in
+    let there : is_gone (entry_of c.self.inside.table.entries c.args.conn.0).phase ≡ false =
+    falsely (is_gone (entry_of c.self.inside.table.entries c.args.conn.0).phase) (ap (λ (z : HubState). not (is_gone (entry_of z.entries c.args.conn.0).phase)) c.self.view_is ∙ c.requires.present) in
+    rw (← c.self.view_is) (goes left there (λ none. ap (λ (z : List ℕ). z ++ []) none) c.self.invariant c.leave.ensures.table)

@@ -1,7 +1,10 @@
 use Rattle.std.specs.Option.{option_map}
-use Rattle.hub_table.specs.Parting.{parting_value}
-use Rattle.hub_core.proofs.CallLemmas.{appends_taken}
+use Rattle.hub_core.specs.Parting.{parting_value}
+use Rattle.hub_core.proofs.CallLemmas.{appends_taken, ties_taken}
 use Rattle.hub_core.proofs.hub.Hub.next_closed.Goals as goal
 
 pub returns-clause-appends : goal.returns-clause-appends
 returns-clause-appends c = rw (← c.self.view_is) (λ net told. appends_taken (option_map parting_value c.next_closed.result) c.self.inside.table c.next_closed.new.self net told c.next_closed.ensures.takes)
+
+pub returns-clause-ties : goal.returns-clause-ties
+returns-clause-ties c = rw (← c.self.view_is) (λ net told. ties_taken (option_map parting_value c.next_closed.result) c.self.inside.table c.next_closed.new.self net told c.next_closed.ensures.takes)

@@ -1,5 +1,5 @@
 use Rattle.std.proofs.Common.{sym, ◌∙◌, ap, subst}
-use Rattle.link_trait.specs.declared.schedule.Act.{Act}
+use Rattle.link_trait.specs.declared.act.Act.{Act}
 use Rattle.schedule_text.specs.Spelling.{HasLine}
 use Rattle.schedule_text.specs.Reading.{fault_after}
 use Rattle.schedule_text.proofs.arrivals.Arrivals.fault.Goals as goal

@@ -1,5 +1,5 @@
 use Rattle.std.proofs.Common.{ℕ, ◌+◌, List, length, sym, ◌∙◌, subst}
-use Rattle.link_trait.specs.declared.schedule.Act.{Act}
+use Rattle.link_trait.specs.declared.act.Act.{Act}
 use Rattle.schedule_text.specs.declared.fault.Fault.TheVariants as fault
 use Rattle.schedule_text.specs.Front.{act_at}
 use Rattle.schedule_text.specs.Reading.{Begins, IsRefused}

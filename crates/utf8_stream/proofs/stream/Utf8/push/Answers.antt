@@ -1,13 +1,14 @@
 use Rattle.std.proofs.Common.{◌++◌, Some, sym, ap, subst, ◌∙◌}
+use Rattle.wire_meaning.proofs.TextFront.{not_front}
 use Rattle.utf8_stream.specs.Unfinished.{carried_octets}
 use Rattle.utf8_stream.specs.Stream.{accepts, Follows}
-use Rattle.utf8_stream.proofs.StreamLemmas.{Follows-push, accepts-pushed, is_text_front-None, is_text_front-malformed, is_text_front-state}
+use Rattle.utf8_stream.proofs.StreamLemmas.{Follows-push, accepts-pushed, is_text_front-None, is_text_front-state}
 use Rattle.utf8_stream.proofs.stream.Utf8.push.Goals as goal
 
 pub returns-in_default-clause-text : goal.returns-in_default-clause-text
 returns-in_default-clause-text c =
     let now = sym (ap carried_octets c.in_default.is) ∙ c.self.view_is in
-    λ all follows. sym (is_text_front-malformed all c.args.piece.now (is_text_front-None all (subst (λ s. Follows s all) (sym now) follows)))
+    λ all follows. sym (not_front all c.args.piece.now (is_text_front-None all (subst (λ s. Follows s all) (sym now) follows)))
 
 pub returns-clause-text : goal.returns-clause-text
 returns-clause-text c =

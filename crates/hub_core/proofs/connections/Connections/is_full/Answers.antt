@@ -1,0 +1,14 @@
+use Rattle.std.proofs.Common.{ℕ, ◌∙◌, sym, ap, length, nat_eq}
+use Rattle.hub_notes.specs.Table.{TableState}
+use Rattle.hub_core.specs.Connection.{entries_of}
+use Rattle.hub_core.proofs.ConnectionLemmas.{length_entries, is_table}
+use Rattle.hub_core.proofs.connections.Connections.is_full.Goals as goal
+
+pub returns-clause-table : goal.returns-clause-table
+returns-clause-table c = rw (← c.self.view_is) (is_table c.self.invariant.kept)
+
+pub returns-clause-value : goal.returns-clause-value
+returns-clause-value c =
+    ap (λ (z : ℕ). nat_eq z c.max_conns.result) (c.count.ensures ∙ sym (length_entries c.self.inside.table.all))
+    ∙ ap (λ (z : ℕ). nat_eq (length (entries_of c.self.inside.table.all)) z) c.max_conns.ensures.value
+    ∙ ap (λ (z : TableState). nat_eq (length z.entries) z.config.max_conns) c.self.view_is

@@ -1,0 +1,6 @@
+use Rattle.std.proofs.Common.{refl}
+use Rattle.hub_core.proofs.LeaveLemmas.{goes_notes}
+use Rattle.hub_core.proofs.hub.Hub.ended.Goals as goal
+
+pub returns : goal.returns
+returns g c = goes_notes c.leave.ensures refl refl c.requires.ties

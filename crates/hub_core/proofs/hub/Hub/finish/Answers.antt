@@ -1,0 +1,10 @@
+use Rattle.std.proofs.Common.{rules}
+use Rattle.hub_lines.specs.State.{server}
+use Rattle.hub_core.proofs.TurnLemmas.{finishes_empty, passes_over}
+use Rattle.hub_core.proofs.hub.Hub.finish.Goals as goal
+
+pub returns-then-held-eq0-clause-finishes : goal.returns-then-held-eq0-clause-finishes
+returns-then-held-eq0-clause-finishes g c = finishes_empty c.leave.ensures c.requires.ending (search rules)
+
+pub returns-else-held-eq0-clause-finishes : goal.returns-else-held-eq0-clause-finishes
+returns-else-held-eq0-clause-finishes g c = passes_over c.args.conn.0 (server c.args.self.now (g.N.Net.state c.args.out.now.net) (g.W.Watch.told c.args.out.now.watch)) (search rules)

@@ -1,0 +1,34 @@
+use Rattle.std.proofs.Common.{refl}
+use Rattle.hub_lines.specs.State.{server, entry_of}
+use Rattle.hub_core.specs.Changes.{PutsItem}
+use Rattle.hub_core.specs.State.{hub_of}
+use Rattle.hub_core.proofs.StateLemmas.{plain_change}
+use Rattle.hub_core.proofs.PutLemmas.{told_put}
+use Rattle.hub_core.proofs.hub.Hub.put_item.Goals as goal
+
+pub returns : goal.returns
+returns g c =
+    let e = c.put_frame.ensures in
+    let p : PutsItem c.args.conn.0 c.args.item c.put_frame.result (server (hub_of c.self.inside.table) (g.N.Net.state c.args.out.now.net) (g.W.Watch.told c.args.out.now.watch)) (server (hub_of c.put_frame.new.self) (g.N.Net.state c.put_frame.new.out.net) (g.W.Watch.told c.put_frame.new.out.watch)) =
+    record {
+      moves = e.moves;
+      others = e.others;
+      offers = e.offers;
+      front = e.front;
+      short = e.short;
+      kept_is = e.kept;
+      failed = e.failed;
+      net = e.net;
+      numbered = e.numbered;
+      waits = λ some. absurd (some e.ring);
+      phase = e.phase;
+      quiet = e.quiet;
+      due = e.due;
+      topics = refl;
+      tells = told_put c.put_frame.result (entry_of c.put_frame.new.self.entries c.args.conn.0).ring e.kept;
+      before = refl;
+      after = refl;
+      elsewhere = plain_change c.args.conn.0 c.self.inside.table c.put_frame.new.self e.elsewhere;
+      table = e.table;
+    } in
+    rw (← c.self.view_is) p

@@ -1,0 +1,6 @@
+use Rattle.hub_lines.specs.Calls.{Ties}
+use Rattle.hub_core.specs.At.{at}
+use Rattle.hub_core.proofs.tests.calls.play.Given as goal
+
+abbrev pub invariant-walk : goal.invariant-walk
+invariant-walk g l = Ties (at g.N.Net g.W.Watch l.hub l.out)

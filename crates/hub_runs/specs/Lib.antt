@@ -1,4 +1,0 @@
-pub mod Agrees
-pub mod Tests
-pub mod Numbers
-pub mod Orders

@@ -1,4 +1,0 @@
-pub mod ConnectionLemmas
-pub mod PlaceLemmas
-pub mod ChangeLemmas
-pub mod HeldLemmas

@@ -1,3 +1,0 @@
-pub mod Connection
-pub mod Parting
-pub mod Table

@@ -1,0 +1,90 @@
+-- What one event does within a turn, what one turn does, and what a run does.
+use Rattle.std.specs.Prelude.{◌≡◌, ◌<◌, ◌≤◌, ◌-◌, ◌^◌, ℕ, length, Option, None, true, IfNone, IfSome}
+use Rattle.ws_kinds.specs.ConfigValue.{ConfigValue}
+use Rattle.ws_kinds.specs.declared.handler.Handler.{Ghosts as HandlerMeaning}
+use Rattle.link_trait.specs.Net.{is_rest}
+use Rattle.link_trait.specs.declared.net.NetEvent.{NetEvent}
+use Rattle.route_table.specs.Table.{RouteTable}
+use Rattle.hub_lines.specs.State.{Server}
+use Rattle.hub_notes.specs.Progress.{due_at}
+use Rattle.run_kept.specs.Kept.{IntakeView}
+use Rattle.run_kept.specs.Ends.{AreThere}
+use Rattle.loop_runner.specs.declared.intakes.Intakes.{Intakes}
+use Rattle.loop_runner.specs.declared.turn.Turned.{Turned}
+use Rattle.loop_runner.specs.declared.turns.Ran.{Ran}
+use Rattle.loop_runner.specs.Keeps.{Beginning, beginning, KeptAll, AreViews, IsRight, IsSettled, IsLivedThroughout, EndsWithTurn}
+use Rattle.loop_runner.specs.Ready.{Ready}
+use Rattle.loop_runner.specs.Steps.{Every, Grows, Steps, Running}
+use Rattle.loop_runner.specs.Turns.{PassesBetween, PassesTurn, FailsAs, Runs}
+use Rattle.loop_runner.specs.Moments.{Moment, IsKeptThen, KeepsNext, SettlesNext}
+
+-- where it was kept before, for a beginning with these routes, and few answers of the net were counted, this holds
+abbrev pub WhereKept : {H : Type 0} {handler : HandlerMeaning H} → RouteTable → Intakes → Moment handler → Moment handler → (Beginning handler.State → Type 0) → Type 0
+WhereKept {H} {handler} table before old new P = (start : handler.State) (config : ConfigValue) (views : ℕ → IntakeView) → length new.server.net.passed < 2 ^ 64 - 1
+    → AreViews before views → KeptAll (beginning handler start config table) old.server old.now views None → P (beginning handler start config table)
+
+-- an event of the net that ended no turn
+pub record Between (intakes : Intakes) (old new : Server) : Type 0 where
+  pub running : Running Every intakes new
+  pub none : (conn : ℕ) → due_at new.hub conn ≡ None
+  pub fell : new.net.room < old.net.room
+  pub passed : PassesBetween old.net new.net
+
+-- an event of the net that ended the turn
+pub record Ended (end : Turned) (intakes : Intakes) (old new : Server) : Type 0 where
+  pub ready : Ready intakes new
+  pub passed : PassesTurn end old.net new.net
+  pub failed : FailsAs end old.net.faults new.net.faults
+  pub last : EndsWithTurn new.told
+
+-- one event of the net, by how it ended the turn, if it did
+pub record TakesEvent {H : Type 0} {handler : HandlerMeaning H} (table : RouteTable) (end : Option Turned) (before after : Intakes) (old new : Moment handler) : Type 0 where
+  pub between : IfNone end (Between after old.server new.server)
+  pub ended : IfSome end (λ turned. Ended turned after old.server new.server)
+  pub grows : Grows old.server new.server
+  pub there : AreThere old.server → AreThere new.server
+  pub kept : WhereKept table before old new (IsKeptThen after new)
+  pub settled : IfSome end (λ turned. WhereKept table before old new (λ b. AreThere old.server → IsSettled b new.server))
+
+-- the end of a turn, after an answer of the net that ended it
+pub record EndsEvents {H : Type 0} {handler : HandlerMeaning H} (before after : Intakes) (old new : Moment handler) : Type 0 where
+  pub ready : Ready after new.server
+  pub steps : Steps Every old.server new.server
+  pub last : EndsWithTurn new.server.told
+  pub kept : (table : RouteTable) (answer : NetEvent) → is_rest answer ≡ true → KeepsNext answer table before after old new
+  pub settled : (table : RouteTable) (answer : NetEvent) → is_rest answer ≡ true → SettlesNext answer table before old new
+
+-- one turn, by how it ended
+pub record MakesTurn {H : Type 0} {handler : HandlerMeaning H} (table : RouteTable) (end : Turned) (before after : Intakes) (old new : Moment handler) : Type 0 where
+  pub ready : Ready after new.server
+  pub passed : PassesTurn end old.server.net new.server.net
+  pub failed : FailsAs end old.server.net.faults new.server.net.faults
+  pub grows : Grows old.server new.server
+  pub kept : WhereKept table before old new (IsKeptThen after new)
+  pub right : WhereKept table before old new (λ b. IsRight b new.server new.now)
+  pub there : AreThere old.server → AreThere new.server
+  pub settled : WhereKept table before old new (λ b. AreThere old.server → IsSettled b new.server)
+  pub last : EndsWithTurn new.server.told
+  pub throughout : WhereKept table before old new (λ b. IsLivedThroughout b old.server → IsLivedThroughout b new.server)
+
+-- so many turns, one after another
+pub record MakesTurns {H : Type 0} {handler : HandlerMeaning H} (table : RouteTable) (made : ℕ) (before after : Intakes) (old new : Moment handler) : Type 0 where
+  pub ready : Ready after new.server
+  pub grows : Grows old.server new.server
+  pub kept : WhereKept table before old new (IsKeptThen after new)
+  pub there : AreThere old.server → AreThere new.server
+  pub settled : 1 ≤ made → WhereKept table before old new (λ b. AreThere old.server → IsSettled b new.server)
+  pub last : 1 ≤ made → EndsWithTurn new.server.told
+  pub throughout : WhereKept table before old new (λ b. IsLivedThroughout b old.server → IsLivedThroughout b new.server)
+
+-- a run, by how it ended
+pub record MakesRun {H : Type 0} {handler : HandlerMeaning H} (table : RouteTable) (end : Ran) (turns : ℕ) (before after : Intakes) (old new : Moment handler) : Type 0 where
+  pub ready : Ready after new.server
+  pub runs : Runs end turns old.server.net new.server.net
+  pub grows : Grows old.server new.server
+  pub kept : WhereKept table before old new (IsKeptThen after new)
+  pub right : WhereKept table before old new (λ b. IsRight b new.server new.now)
+  pub there : AreThere old.server → AreThere new.server
+  pub settled : 1 ≤ turns → WhereKept table before old new (λ b. AreThere old.server → IsSettled b new.server)
+  pub last : 1 ≤ turns → EndsWithTurn new.server.told
+  pub throughout : WhereKept table before old new (λ b. IsLivedThroughout b old.server → IsLivedThroughout b new.server)

@@ -1,0 +1,10 @@
+pub mod Links
+pub mod Schedules
+pub mod Places
+pub mod Fitting
+pub mod Moving
+pub mod Telling
+pub mod Acting
+pub mod Resting
+pub mod Using
+pub mod Preparing

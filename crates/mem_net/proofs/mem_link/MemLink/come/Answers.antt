@@ -1,0 +1,12 @@
+use Rattle.std.proofs.Common.{sym}
+use Rattle.std.proofs.lemmas.List.{drop-drop}
+use Rattle.mem_net.proofs.Links.{came_more}
+use Rattle.mem_net.proofs.mem_link.MemLink.come.Goals as goal
+
+pub returns-clause-came : goal.returns-clause-came
+returns-clause-came c =
+    let octets = c.self.inside.octets.items in
+    let came = c.self.inside.came in
+    let moved = came_more octets c.self.inside.read came c.args.count c.self.invariant.0 c.self.invariant.1 in
+    let left = sym (drop-drop c.args.count came octets) in
+    rw (← c.self.view_is) (rw (moved, left))

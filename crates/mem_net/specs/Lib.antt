@@ -1,0 +1,5 @@
+pub mod Schedule
+pub mod LinkState
+pub mod Acts
+pub mod MemNet
+pub mod MemSteps

@@ -1,0 +1,119 @@
+-- A net in memory: what it holds, what it means, and how it follows its schedule.
+use Rattle.std.specs.Prelude.{◌≡◌, ◌<◌, ◌≤◌, ◌+◌, ◌-◌, ◌^◌, ◌++◌, ◌&&◌, ℕ, List, [], ◌∷◌, Option, Some, None, Bool, true, false, nat_eq, length, take, drop, max, map, replicate, if◌then◌else◌}
+use Rattle.std.specs.List.{sum_by, list_all, fold}
+use Rattle.mem_net.specs.Schedule.{has_arrived, is_sound, is_plain}
+use Rattle.mem_net.specs.Acts.{arrivals, sent, finish_of, passes, is_end, is_fault}
+use Rattle.mem_net.specs.LinkState.{LinkState, new_link, is_ready, is_finish}
+use Rattle.link_trait.specs.NetState.{NetState}
+use Rattle.link_trait.specs.declared.act.Act.{Act}
+use Rattle.link_trait.specs.declared.net.NetEvent.{NetEvent}
+use Rattle.link_trait.specs.declared.net.NetEvent.TheVariants as event
+
+pub record MemNetState : Type 0 where
+  -- the acts of its schedule
+  pub acts : List Act
+  -- how many of them were done
+  pub done : ℕ
+  -- the connections of the schedule, in the order in which they arrive
+  pub links : List LinkState
+  -- how many answers of `next` passed: Accept, Tick, Turn and Stop
+  pub answers : ℕ
+  -- the last answer of `next` was Turn or Stop, and no read was made since
+  pub rested : Bool
+  -- no write failed
+  pub whole : Bool
+  -- the faults so far
+  pub faults : ℕ
+  -- the port at which it listens
+  pub port : Option ℕ
+
+-- the link of conn, among those of the connections with these numbers
+abbrev pub link_of : List ℕ → List LinkState → ℕ → LinkState
+link_of [] links conn = new_link []
+link_of (number ∷ numbers) [] conn = new_link []
+link_of (number ∷ numbers) (link ∷ links) conn = if nat_eq number conn then link else link_of numbers links conn
+
+abbrev pub link_at : MemNetState → ℕ → LinkState
+link_at net conn = link_of (arrivals net.acts) net.links conn
+
+-- how often Readable can still be told of a link: no more often than this
+abbrev pub readies_left : LinkState → ℕ
+readies_left link = length link.waiting + length link.coming + (if link.answered then 0 else 1) + (if link.due then 0 else 1)
+
+-- the acts done, and then Stop for each answer beyond those that they pass
+abbrev pub passed_by : List Act → ℕ → List NetEvent
+passed_by acts answers = passes acts ++ replicate (answers - length (passes acts)) event.Stop
+
+-- its meaning as a net
+abbrev pub net_state : MemNetState → NetState
+net_state net = record {
+  tells = true;
+  given = λ conn. (link_at net conn).given;
+  taken = λ conn. (link_at net conn).taken;
+  wrote = λ conn. (link_at net conn).writes;
+  ended = λ conn. (link_at net conn).ended;
+  broken = λ conn. (link_at net conn).broken;
+  passed = passed_by (take net.done net.acts) net.answers;
+  rested = net.rested;
+  live = λ conn. (link_at net conn).live;
+  named = fold max 0 (arrivals (take net.done net.acts));
+  due = λ conn. (link_at net conn).due;
+  writable = λ conn. true;
+  room = (length net.acts - net.done) + sum_by readies_left net.links;
+  faults = net.faults;
+  port = net.port;
+  schedule = Some net.acts;
+}
+
+-- how the link of conn stands to the acts: those done, and those to come
+pub record LinkFollows (conn : ℕ) (done rest : List Act) (whole : Bool) (link : LinkState) : Type 0 where
+  -- what was read and what waits is what was sent
+  pub came : link.given ++ link.waiting ≡ sent conn done
+  -- what comes later is what will be sent
+  pub coming : link.coming ≡ sent conn rest
+  pub finish : link.finish ≡ finish_of conn done
+  -- Readable is told only where there is something to read
+  pub ready : link.due ≡ true → is_ready link ≡ true
+  -- the end and a fault are answered once nothing waits
+  pub answered : link.answered ≡ true → (link.waiting ≡ []) × (is_finish link.finish ≡ true)
+  pub ended : link.ended ≡ (link.answered && is_end link.finish)
+  -- a read that failed, and, while no write fails, nothing else breaks a link
+  pub broken : (link.answered && is_fault link.finish) ≡ true → link.broken ≡ true
+  pub unbroken : whole ≡ true → link.broken ≡ true → (link.answered && is_fault link.finish) ≡ true
+  -- before it arrives nothing happened
+  pub quiet : has_arrived done conn ≡ false → link ≡ new_link link.coming
+
+-- each live connection that has something to read is due
+abbrev pub AllTold : MemNetState → Type 0
+AllTold net = (conn : ℕ) → (link_at net conn).live ≡ true → is_ready (link_at net conn) ≡ true → (link_at net conn).due ≡ true
+
+-- it follows its schedule
+pub record FollowsSchedule (net : MemNetState) : Type 0 where
+  pub few : length net.acts < 2 ^ 64
+  pub done : net.done ≤ length net.acts
+  pub sound : is_sound net.acts ≡ true
+  pub plain : list_all is_plain net.acts ≡ true
+  pub links : length net.links ≡ length (arrivals net.acts)
+  pub fits : (conn : ℕ) → has_arrived net.acts conn ≡ true → LinkFollows conn (take net.done net.acts) (drop net.done net.acts) net.whole (link_at net conn)
+  -- Stop passes only once all acts were done
+  pub passed : length (passes (take net.done net.acts)) ≤ net.answers
+  pub stops : net.done < length net.acts → net.answers ≡ length (passes (take net.done net.acts))
+  -- while it rests, what can be read was told
+  pub told : net.rested ≡ true → AllTold net
+
+-- the links of the connections that arrive among acts, before the first act
+abbrev pub new_links : List Act → List LinkState
+new_links acts = map (λ conn. new_link (sent conn acts)) (arrivals acts)
+
+-- before the first act
+abbrev pub start_net : List Act → MemNetState
+start_net acts = record {
+  acts = acts;
+  done = 0;
+  links = new_links acts;
+  answers = 0;
+  rested = false;
+  whole = true;
+  faults = 0;
+  port = None;
+}

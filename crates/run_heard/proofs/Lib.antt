@@ -1,3 +1,0 @@
-pub mod Hearing
-pub mod Lives
-pub mod Replying

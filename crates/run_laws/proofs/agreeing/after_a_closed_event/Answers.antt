@@ -1,0 +1,6 @@
+use Rattle.run_laws.proofs.AgreeLemmas.{agrees_closed}
+use Rattle.run_laws.proofs.HubLemmas.{due_taken}
+use Rattle.run_laws.proofs.agreeing.after_a_closed_event.Goals as goal
+
+pub returns : goal.returns
+returns g c = record { taken = due_taken; noted = λ r. agrees_closed r }

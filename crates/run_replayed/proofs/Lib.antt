@@ -1,4 +1,0 @@
-pub mod FewLemmas
-pub mod StopLemmas
-pub mod ReplayLemmas
-pub mod EndLemmas

@@ -1,4 +1,0 @@
-pub mod Sounds
-pub mod Known
-pub mod Tests
-pub mod Arrivals

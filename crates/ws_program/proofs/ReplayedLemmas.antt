@@ -1,0 +1,353 @@
+-- What comes of the acts of a schedule, where a run over its net is right and settled.
+use Rattle.std.proofs.Common.{◌≡◌, ◌≢◌, ℕ, List, [], ◌∷◌, ◌++◌, Bool, true, false, cond, not, ◌&&◌, ◌||◌, ◌⊎◌, inl, inr, Option, Some, None, length, take, nat_eq, nat_lt, refl, sym, ap, ◌∙◌, subst, append-nil, arith}
+use Rattle.std.proofs.Math.Seq.{take-length}
+use Rattle.std.proofs.lemmas.Bool.Decides.{nat_tests}
+use Rattle.std.specs.List.{list_any}
+use Rattle.ws_kinds.specs.ConfigValue.{ConfigValue}
+use Rattle.ws_kinds.specs.declared.note.Left.{Left}
+use Rattle.ws_kinds.specs.declared.note.Left.TheVariants.{PeerEnd, LinkFailed}
+use Rattle.ws_kinds.specs.declared.note.Phase.{Phase}
+use Rattle.ws_kinds.specs.declared.note.Phase.TheVariants.{Head, Open, Leaving, Ending, Gone}
+use Rattle.ws_kinds.specs.NoteValue as note
+use Rattle.ws_kinds.specs.NoteValue.{NoteValue}
+use Rattle.link_trait.specs.declared.act.Act.{Act}
+use Rattle.link_trait.specs.declared.act.Act.TheVariants as act
+use Rattle.mem_net.specs.declared.mem_link.Finish.{Finish}
+use Rattle.mem_net.specs.declared.mem_link.Finish.TheVariants as finish
+use Rattle.mem_net.specs.Acts.{sent, finish_of, finish_by, or_then, is_end, is_fault}
+use Rattle.mem_net.specs.LinkState.{LinkState, is_ready, is_finish}
+use Rattle.mem_net.specs.Schedule.{has_arrived, is_ending}
+use Rattle.mem_net.specs.MemNet.{MemNetState, FollowsSchedule, net_state, link_at}
+use Rattle.mem_net.proofs.Acting.{not_there}
+use Rattle.route_table.specs.Table.{RouteTable}
+use Rattle.run_meaning.specs.Notes.{is_of, window, is_gone_by}
+use Rattle.run_meaning.specs.Counts.{is_accepted, is_gone_by_in}
+use Rattle.run_meaning.specs.Lines.{moved, phase, is_refused, is_gone_phase}
+use Rattle.run_meaning.specs.Echo.{echo_server, EchoLine, echo_own, echo_after, echo_lines, echo_start}
+use Rattle.run_meaning.specs.Settled.{Settled, is_reading}
+use Rattle.run_meaning.specs.Right.{Right}
+use Rattle.run_meaning.proofs.EchoLemmas.{world_view}
+use Rattle.hub_notes.proofs.BoolLemmas.{by_cases, clash}
+use Rattle.run_laws.proofs.WorldLemmas.{accepted_known}
+use Rattle.run_laws.proofs.WorldLemmas.{unaccepted_phase}
+use Rattle.ws_program.specs.Replayed.{IsReplayed, is_end_of, is_fault_of}
+
+-- ---- a connection that is gone stays so
+
+-- the phase of a connection after notes
+abbrev phases : ℕ → List NoteValue → Option Phase → Option Phase
+phases d [] p = p
+phases d (n ∷ ns) p = phases d ns (cond (is_of d n) (moved p n) p)
+
+phases-append : (d : ℕ) (xs ys : List NoteValue) (p : Option Phase) → phases d (xs ++ ys) p ≡ phases d ys (phases d xs p)
+phases-append d [] ys p = refl
+phases-append d (x ∷ xs) ys p = phases-append d xs ys (cond (is_of d x) (moved p x) p)
+
+lines_phases : (text : List ℕ) (d : ℕ) (l : EchoLine) (ns : List NoteValue) → (echo_lines text d l ns).phase ≡ phases d ns l.phase
+lines_phases text d l [] = refl
+lines_phases text d l (n ∷ ns) =
+    lines_phases text d (echo_after text d n ns l) ns ∙ ap (λ p. phases d ns p) (one (is_of d n))
+  where
+    one : (z : Bool) → (cond z (echo_own text (is_refused (window ns) d 0) n l) l).phase ≡ cond z (moved l.phase n) l.phase
+    one true = refl
+    one false = refl
+
+phase_is : (replies : ℕ → List ℕ) (d : ℕ) (ns : List NoteValue) → phase (echo_server replies) ns d ≡ phases d ns None
+phase_is replies d ns = ap (λ (l : EchoLine). l.phase) (sym (world_view replies (replies d) d ns refl)) ∙ lines_phases (replies d) d echo_start ns
+
+gone_moved : (n : NoteValue) → moved (Some Gone) n ≡ Some Gone
+gone_moved note.turn = refl
+gone_moved note.tick = refl
+gone_moved (note.accepted c) = refl
+gone_moved (note.busy c) = refl
+gone_moved (note.no_room c) = refl
+gone_moved (note.given c k) = refl
+gone_moved (note.head c k) = refl
+gone_moved (note.opened c k p) = refl
+gone_moved (note.message c k b) = refl
+gone_moved (note.ping_got c b) = refl
+gone_moved (note.pong_got c b) = refl
+gone_moved (note.peer_close c k b) = refl
+gone_moved (note.failed c k) = refl
+gone_moved (note.took c o k) = refl
+gone_moved (note.dropped c i h) = refl
+gone_moved (note.unserved c o w) = refl
+gone_moved (note.pinged c) = refl
+gone_moved (note.told c k d) = refl
+gone_moved (note.closed c k b) = refl
+gone_moved (note.gone c l) = refl
+
+gone_stays : (d : ℕ) (ns : List NoteValue) → phases d ns (Some Gone) ≡ Some Gone
+gone_stays d [] = refl
+gone_stays d (n ∷ ns) = ap (λ p. phases d ns p) (one (is_of d n)) ∙ gone_stays d ns
+  where
+    one : (z : Bool) → cond z (moved (Some Gone) n) (Some Gone) ≡ Some Gone
+    one true = gone_moved n
+    one false = refl
+
+known_gone : (p : Option Phase) (d : ℕ) (l : Left) → p ≢ None → moved p (note.gone d l) ≡ Some Gone
+known_gone None d l known = absurd (known refl)
+known_gone (Some Head) d l known = refl
+known_gone (Some Open) d l known = refl
+known_gone (Some Leaving) d l known = refl
+known_gone (Some Ending) d l known = refl
+known_gone (Some Gone) d l known = refl
+
+-- a note says that the connection is gone
+record SaysGone (d : ℕ) (ns : List NoteValue) : Type 0 where
+  before : List NoteValue
+  rest : List NoteValue
+  left : Left
+  split : ns ≡ before ++ note.gone d left ∷ rest
+
+gone_note : (d : ℕ) (l : Left) (n : NoteValue) → is_gone_by d l n ≡ true → (left : Left) × (n ≡ note.gone d left)
+gone_note d l (note.gone c k) e = (k, ap (λ i. note.gone i k) (same_of c d (both (nat_eq c d) _ e)))
+  where
+    both : (a b : Bool) → (a && b) ≡ true → a ≡ true
+    both true b e = refl
+    both false b e = clash false refl e
+
+    same_of : (c d : ℕ) → nat_eq c d ≡ true → c ≡ d
+    same_of c d e = grind (arith, nat_tests)
+gone_note d l n e = clash false refl e
+
+says_gone : (d : ℕ) (l : Left) (ns : List NoteValue) → is_gone_by_in d l ns ≡ true → SaysGone d ns
+says_gone d l [] e = clash false refl e
+says_gone d l (n ∷ ns) e =
+    by_cases (is_gone_by d l n)
+    (λ here. let found = gone_note d l n here in record { before = []; rest = ns; left = found.0; split = ap (λ m. m ∷ ns) found.1 })
+    (λ elsewhere. let more = says_gone d l ns (sym (ap (λ z. z || is_gone_by_in d l ns) elsewhere) ∙ e) in
+    record { before = n ∷ more.before; rest = more.rest; left = more.left; split = ap (λ zs. n ∷ zs) more.split })
+
+same_number : (d : ℕ) → nat_eq d d ≡ true
+same_number d = grind (arith, nat_tests)
+
+-- ---- how a link finishes
+
+ending_act : (d : ℕ) (a : Act) → is_ending d a ≡ true → finish_by d a ≡ finish.Later → ⊥
+ending_act d (act.End c) e h = let z : cond (nat_eq c.0 d) finish.End finish.Later ≡ finish.Later = h in let y : nat_eq c.0 d ≡ true = e in clash_finish (nat_eq c.0 d) y z
+  where
+    clash_finish : (b : Bool) → b ≡ true → cond b finish.End finish.Later ≡ finish.Later → ⊥
+    clash_finish true e h = let z : finish.End ≡ finish.Later = h in cc
+    clash_finish false e h = clash false refl e
+ending_act d (act.ReadFails c) e h = let z : cond (nat_eq c.0 d) finish.Failed finish.Later ≡ finish.Later = h in let y : nat_eq c.0 d ≡ true = e in clash_finish (nat_eq c.0 d) y z
+  where
+    clash_finish : (b : Bool) → b ≡ true → cond b finish.Failed finish.Later ≡ finish.Later → ⊥
+    clash_finish true e h = let z : finish.Failed ≡ finish.Later = h in cc
+    clash_finish false e h = clash false refl e
+ending_act d a e h = clash false refl e
+
+later_both : (a b : Finish) → or_then a b ≡ finish.Later → (a ≡ finish.Later) × (b ≡ finish.Later)
+later_both finish.Later b e = (refl, e)
+later_both finish.End b e = let z : finish.End ≡ finish.Later = e in absurd (let y : ⊥ = cc in y)
+later_both finish.Failed b e = let z : finish.Failed ≡ finish.Later = e in absurd (let y : ⊥ = cc in y)
+
+-- where nothing finishes the link, no act ends the octets
+none_ends : (d : ℕ) (acts : List Act) → finish_of d acts ≡ finish.Later → list_any (is_ending d) acts ≡ false
+none_ends d [] e = refl
+none_ends d (a ∷ acts) e =
+    let parts = later_both (finish_by d a) (finish_of d acts) e in
+    by_cases (is_ending d a) (λ ends. absurd (ending_act d a ends parts.0)) (λ goes. ap (λ z. z || list_any (is_ending d) acts) goes ∙ none_ends d acts parts.1)
+
+end_act : (d : ℕ) (a : Act) → finish_by d a ≡ finish.End → is_end_of d a ≡ true
+end_act d (act.End c) e = one (nat_eq c.0 d) e
+  where
+    one : (b : Bool) → cond b finish.End finish.Later ≡ finish.End → b ≡ true
+    one true e = refl
+    one false e = absurd (let z : finish.Later ≡ finish.End = e in cc)
+end_act d (act.ReadFails c) e = one (nat_eq c.0 d) e
+  where
+    one : (b : Bool) → cond b finish.Failed finish.Later ≡ finish.End → false ≡ true
+    one true e = absurd (let z : finish.Failed ≡ finish.End = e in cc)
+    one false e = absurd (let z : finish.Later ≡ finish.End = e in cc)
+end_act d a e = absurd (let z : finish.Later ≡ finish.End = e in cc)
+
+fault_act : (d : ℕ) (a : Act) → finish_by d a ≡ finish.Failed → is_fault_of d a ≡ true
+fault_act d (act.ReadFails c) e = one (nat_eq c.0 d) e
+  where
+    one : (b : Bool) → cond b finish.Failed finish.Later ≡ finish.Failed → b ≡ true
+    one true e = refl
+    one false e = absurd (let z : finish.Later ≡ finish.Failed = e in cc)
+fault_act d (act.End c) e = one (nat_eq c.0 d) e
+  where
+    one : (b : Bool) → cond b finish.End finish.Later ≡ finish.Failed → false ≡ true
+    one true e = absurd (let z : finish.End ≡ finish.Failed = e in cc)
+    one false e = absurd (let z : finish.Later ≡ finish.Failed = e in cc)
+fault_act d a e = absurd (let z : finish.Later ≡ finish.Failed = e in cc)
+
+first_end : (a b : Finish) (A : Type 0) → or_then a b ≡ finish.End → (a ≡ finish.End → A) → (b ≡ finish.End → A) → A
+first_end finish.Later b A e here there = there e
+first_end finish.End b A e here there = here refl
+first_end finish.Failed b A e here there = absurd (let z : finish.Failed ≡ finish.End = e in cc)
+
+first_fault : (a b : Finish) (A : Type 0) → or_then a b ≡ finish.Failed → (a ≡ finish.Failed → A) → (b ≡ finish.Failed → A) → A
+first_fault finish.Later b A e here there = there e
+first_fault finish.Failed b A e here there = here refl
+first_fault finish.End b A e here there = absurd (let z : finish.End ≡ finish.Failed = e in cc)
+
+or_first : (a b : Bool) → a ≡ true → (a || b) ≡ true
+or_first a b e = ap (λ z. z || b) e
+
+or_second : (a b : Bool) → b ≡ true → (a || b) ≡ true
+or_second true b e = refl
+or_second false b e = e
+
+some_end : (d : ℕ) (acts : List Act) → finish_of d acts ≡ finish.End → list_any (is_end_of d) acts ≡ true
+some_end d [] e = absurd (let z : finish.Later ≡ finish.End = e in cc)
+some_end d (a ∷ acts) e =
+    first_end (finish_by d a) (finish_of d acts) (list_any (is_end_of d) (a ∷ acts) ≡ true) e
+    (λ here. or_first (is_end_of d a) (list_any (is_end_of d) acts) (end_act d a here))
+    (λ later. or_second (is_end_of d a) (list_any (is_end_of d) acts) (some_end d acts later))
+
+some_fault : (d : ℕ) (acts : List Act) → finish_of d acts ≡ finish.Failed → list_any (is_fault_of d) acts ≡ true
+some_fault d [] e = absurd (let z : finish.Later ≡ finish.Failed = e in cc)
+some_fault d (a ∷ acts) e =
+    first_fault (finish_by d a) (finish_of d acts) (list_any (is_fault_of d) (a ∷ acts) ≡ true) e
+    (λ here. or_first (is_fault_of d a) (list_any (is_fault_of d) acts) (fault_act d a here))
+    (λ later. or_second (is_fault_of d a) (list_any (is_fault_of d) acts) (some_fault d acts later))
+
+is_end_is : (e : Finish) → is_end e ≡ true → e ≡ finish.End
+is_end_is finish.Later e = clash false refl e
+is_end_is finish.End e = refl
+is_end_is finish.Failed e = clash false refl e
+
+is_fault_is : (e : Finish) → is_fault e ≡ true → e ≡ finish.Failed
+is_fault_is finish.Later e = clash false refl e
+is_fault_is finish.End e = clash false refl e
+is_fault_is finish.Failed e = refl
+
+both_left : (a b : Bool) → (a && b) ≡ true → a ≡ true
+both_left true b e = refl
+both_left false b e = clash false refl e
+
+both_right : (a b : Bool) → (a && b) ≡ true → b ≡ true
+both_right true b e = e
+both_right false b e = clash false refl e
+
+-- ---- what is ready
+
+nothing_waits : (octets : List ℕ) (b : Bool) → (nat_lt 0 (length octets) || b) ≡ false → octets ≡ []
+nothing_waits [] b e = refl
+nothing_waits (x ∷ xs) b e = absurd (let z : nat_lt 0 (length (x ∷ xs)) ≡ true = grind (arith, nat_tests) in let y : (nat_lt 0 (length (x ∷ xs)) || b) ≡ true = or_first (nat_lt 0 (length (x ∷ xs))) b z in clash (nat_lt 0 (length (x ∷ xs)) || b) e y)
+
+was_answered : (a : Bool) (answered : Bool) (e : Finish) → (a || (not answered && is_finish e)) ≡ false → (e ≡ finish.Later) ⊎ (answered ≡ true)
+was_answered true answered e h = clash true h refl
+was_answered false true e h = inr refl
+was_answered false false finish.Later h = inl refl
+was_answered false false finish.End h = clash true h refl
+was_answered false false finish.Failed h = clash true h refl
+
+all_waiting : (given waiting octets : List ℕ) → given ++ waiting ≡ octets → waiting ≡ [] → given ≡ octets
+all_waiting given waiting octets e none = sym (append-nil given) ∙ ap (λ (w : List ℕ). given ++ w) (sym none) ∙ e
+
+module _ (f : ConfigValue) (t : RouteTable) (ns : List NoteValue) (net : MemNetState) (held replies : ℕ → List ℕ)
+    (right : Right (echo_server replies) f t ns (net_state net) tt held) where
+  -- once a note says so, the connection is gone
+  gone_phase : (d : ℕ) (l : Left) → is_gone_by_in d l ns ≡ true → phase (echo_server replies) ns d ≡ Some Gone
+  gone_phase d l e =
+      let says = says_gone d l ns e in
+      let named = (right.sound says.before says.rest (note.gone d says.left) says.split).named d refl in
+      let there : is_accepted d says.before ≡ true = by_cases (is_accepted d says.before) (λ yes. yes) (λ no. clash false refl (named no)) in
+      let known : phases d says.before None ≢ None = subst (λ p. p ≢ None) (phase_is replies d says.before) (accepted_known (echo_server replies) d says.before there) in
+      let split : phases d ns None ≡ phases d says.rest (cond (nat_eq d d) (moved (phases d says.before None) (note.gone d says.left)) (phases d says.before None)) =
+      ap (λ zs. phases d zs None) says.split ∙ phases-append d says.before (note.gone d says.left ∷ says.rest) None in
+      phase_is replies d ns ∙ split
+      ∙ ap (λ z. phases d says.rest (cond z (moved (phases d says.before None) (note.gone d says.left)) (phases d says.before None))) (same_number d)
+      ∙ ap (λ p. phases d says.rest p) (known_gone (phases d says.before None) d says.left known)
+      ∙ gone_stays d says.rest
+
+  gone_reads : (d : ℕ) (l : Left) → is_reading (phase (echo_server replies) ns d) ≡ true → is_gone_by_in d l ns ≡ true → ⊥
+  gone_reads d l reads gone = clash (is_reading (phase (echo_server replies) ns d)) (ap is_reading (gone_phase d l gone)) reads
+
+  reads_accepted : (d : ℕ) → is_reading (phase (echo_server replies) ns d) ≡ true → is_accepted d ns ≡ true
+  reads_accepted d reads =
+      by_cases (is_accepted d ns) (λ there. there) (λ away. clash (is_reading (phase (echo_server replies) ns d)) (ap is_reading (unaccepted_phase (echo_server replies) d ns away)) reads)
+
+  reading_not_gone : (p : Option Phase) → is_reading p ≡ true → is_gone_phase p ≡ false
+  reading_not_gone None e = refl
+  reading_not_gone (Some Head) e = refl
+  reading_not_gone (Some Open) e = refl
+  reading_not_gone (Some Leaving) e = refl
+  reading_not_gone (Some Ending) e = refl
+  reading_not_gone (Some Gone) e = clash false refl e
+
+  module _ (follows : FollowsSchedule net) (whole : net.whole ≡ true) (done : net.done ≡ length net.acts)
+      (settled : Settled (echo_server replies) ns (net_state net) (record { pending = 0; gathered = []; backlog = held })) where
+    all_acts : take net.done net.acts ≡ net.acts
+    all_acts = ap (λ k. take k net.acts) done ∙ take-length net.acts
+
+    -- a link of which something is known arrived
+    arrived : (d : ℕ) (test : LinkState → Bool) → test (link_at net d) ≡ true → ((has_arrived net.acts d ≡ false) → test (link_at net d) ≡ false) → has_arrived net.acts d ≡ true
+    arrived d test shown away = by_cases (has_arrived net.acts d) (λ there. there) (λ none. clash (test (link_at net d)) (away none) shown)
+
+    sent_all : (d : ℕ) → has_arrived net.acts d ≡ true → (link_at net d).waiting ≡ [] → (link_at net d).given ≡ sent d net.acts
+    sent_all d there none =
+        all_waiting (link_at net d).given (link_at net d).waiting (sent d net.acts) ((follows.fits d there).came ∙ ap (λ zs. sent d zs) all_acts) none
+
+    finish_all : (d : ℕ) → has_arrived net.acts d ≡ true → (link_at net d).finish ≡ finish_of d net.acts
+    finish_all d there = (follows.fits d there).finish ∙ ap (λ zs. finish_of d zs) all_acts
+
+    reads_live : (d : ℕ) → is_reading (phase (echo_server replies) ns d) ≡ true → (link_at net d).live ≡ true
+    reads_live d reads =
+        settled.live d ∙ ap (λ z. z && not (is_gone_phase (phase (echo_server replies) ns d))) (reads_accepted d reads) ∙ ap not (reading_not_gone (phase (echo_server replies) ns d) reads)
+
+    reads_arrived : (d : ℕ) → is_reading (phase (echo_server replies) ns d) ≡ true → has_arrived net.acts d ≡ true
+    reads_arrived d reads = arrived d (λ link. link.live) (reads_live d reads) (λ none. ap (λ (link : LinkState). link.live) (not_there d net none))
+
+    reads_idle : (d : ℕ) → is_reading (phase (echo_server replies) ns d) ≡ true → is_ready (link_at net d) ≡ false
+    reads_idle d reads =
+        by_cases (is_ready (link_at net d))
+        (λ ready. clash (link_at net d).due (settled.asked d reads) (follows.told settled.rested d (reads_live d reads) ready))
+        (λ idle. idle)
+
+    reads_drained : (d : ℕ) → is_reading (phase (echo_server replies) ns d) ≡ true → (link_at net d).waiting ≡ []
+    reads_drained d reads = nothing_waits (link_at net d).waiting (not (link_at net d).answered && is_finish (link_at net d).finish) (reads_idle d reads)
+
+    pub replay_given : (d : ℕ) → is_reading (phase (echo_server replies) ns d) ≡ true → (net_state net).given d ≡ sent d net.acts
+    replay_given d reads = sent_all d (reads_arrived d reads) (reads_drained d reads)
+
+    -- a connection that is read was not told an end or a fault
+    unanswered : (d : ℕ) → is_reading (phase (echo_server replies) ns d) ≡ true → (link_at net d).answered ≡ true → ⊥
+    unanswered d reads answered =
+        let fits = follows.fits d (reads_arrived d reads) in
+        by_finish (link_at net d).finish refl (fits.answered answered).1
+      where
+        by_finish : (e : Finish) → (link_at net d).finish ≡ e → is_finish (link_at net d).finish ≡ true → ⊥
+        by_finish finish.Later e h = clash (is_finish (link_at net d).finish) (ap is_finish e) h
+        by_finish finish.End e h =
+            let fits = follows.fits d (reads_arrived d reads) in
+            let ends : (net_state net).ended d ≡ true = fits.ended ∙ ap (λ z. z && is_end (link_at net d).finish) answered ∙ ap is_end e in
+            gone_reads d PeerEnd reads (right.follows.ended d (reads_accepted d reads) ∙ ends)
+        by_finish finish.Failed e h =
+            let fits = follows.fits d (reads_arrived d reads) in
+            let breaks : (net_state net).broken d ≡ true = fits.broken (ap (λ z. z && is_fault (link_at net d).finish) answered ∙ ap is_fault e) in
+            gone_reads d LinkFailed reads (right.follows.broken d (reads_accepted d reads) ∙ breaks)
+
+    pub replay_unended : (d : ℕ) → is_reading (phase (echo_server replies) ns d) ≡ true → list_any (is_ending d) net.acts ≡ false
+    replay_unended d reads = by_answer (was_answered (nat_lt 0 (length (link_at net d).waiting)) (link_at net d).answered (link_at net d).finish (reads_idle d reads))
+      where
+        by_answer : ((link_at net d).finish ≡ finish.Later) ⊎ ((link_at net d).answered ≡ true) → list_any (is_ending d) net.acts ≡ false
+        by_answer (inl later) = none_ends d net.acts (sym (finish_all d (reads_arrived d reads)) ∙ later)
+        by_answer (inr answered) = absurd (unanswered d reads answered)
+
+    pub replay_ended : (d : ℕ) → is_accepted d ns ≡ true → is_gone_by_in d PeerEnd ns ≡ true → (list_any (is_end_of d) net.acts ≡ true) × ((net_state net).given d ≡ sent d net.acts)
+    replay_ended d accepted gone =
+        let ends : (link_at net d).ended ≡ true = sym (right.follows.ended d accepted) ∙ gone in
+        let there = arrived d (λ link. link.ended) ends (λ none. ap (λ (link : LinkState). link.ended) (not_there d net none)) in
+        let fits = follows.fits d there in
+        let both : ((link_at net d).answered && is_end (link_at net d).finish) ≡ true = sym fits.ended ∙ ends in
+        let answered = both_left (link_at net d).answered (is_end (link_at net d).finish) both in
+        let finished = is_end_is (link_at net d).finish (both_right (link_at net d).answered (is_end (link_at net d).finish) both) in
+        (some_end d net.acts (sym (finish_all d there) ∙ finished), sent_all d there (fits.answered answered).0)
+
+    pub replay_failed : (d : ℕ) → is_accepted d ns ≡ true → is_gone_by_in d LinkFailed ns ≡ true → list_any (is_fault_of d) net.acts ≡ true
+    replay_failed d accepted gone =
+        let breaks : (link_at net d).broken ≡ true = sym (right.follows.broken d accepted) ∙ gone in
+        let there = arrived d (λ link. link.broken) breaks (λ none. ap (λ (link : LinkState). link.broken) (not_there d net none)) in
+        let fits = follows.fits d there in
+        let both : ((link_at net d).answered && is_fault (link_at net d).finish) ≡ true = fits.unbroken whole breaks in
+        let finished = is_fault_is (link_at net d).finish (both_right (link_at net d).answered (is_fault (link_at net d).finish) both) in
+        some_fault d net.acts (sym (finish_all d there) ∙ finished)
+
+    pub replay_all : IsReplayed f t net.acts ns (net_state net) held replies
+    replay_all = record { right = right; settled = settled; given = replay_given; unended = replay_unended; ended = replay_ended; failed = replay_failed }

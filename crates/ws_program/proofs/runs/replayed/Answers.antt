@@ -1,0 +1,5 @@
+use Rattle.ws_program.proofs.ReplayedLemmas.{replay_all}
+use Rattle.ws_program.proofs.runs.replayed.Goals as goal
+
+pub returns : goal.returns
+returns c = λ f t ns net held replies follows whole done right settled. replay_all f t ns net held replies right follows whole done settled

@@ -1,0 +1,75 @@
+-- What comes of a schedule that was run over a net in memory, with a handler that sends each message of the first route back.
+use Rattle.std.specs.Prelude.{◌≡◌, ℕ, List, [], ◌∷◌, ◌++◌, Bool, true, false, nat_eq, length, map}
+use Rattle.std.specs.List.{list_any, flat_map}
+use Rattle.ws_kinds.specs.ConfigValue.{ConfigValue}
+use Rattle.ws_kinds.specs.NoteValue.{NoteValue}
+use Rattle.ws_kinds.specs.declared.note.Left.TheVariants.{PeerEnd, LinkFailed}
+use Rattle.link_trait.specs.declared.act.Act.{Act}
+use Rattle.link_trait.specs.declared.act.Act.TheVariants as act
+use Rattle.link_trait.specs.declared.net.NetEvent.{NetEvent}
+use Rattle.link_trait.specs.declared.net.NetEvent.TheVariants as event
+use Rattle.mem_net.specs.Acts.{sent, passes}
+use Rattle.mem_net.specs.Schedule.{is_ending}
+use Rattle.link_trait.specs.NetState.{NetState}
+use Rattle.mem_net.specs.MemNet.{MemNetState, FollowsSchedule, net_state}
+use Rattle.route_table.specs.Table.{RouteTable}
+use Rattle.run_meaning.specs.Counts.{gather, accepted_by, is_accepted, is_gone_by_in}
+use Rattle.run_meaning.specs.Echo.{echo_server}
+use Rattle.run_meaning.specs.Lines.{phase}
+use Rattle.run_meaning.specs.Settled.{Settled, is_reading}
+use Rattle.run_meaning.specs.Right.{Right}
+use Rattle.run_meaning.specs.Replies.{AreReplies}
+use Rattle.schedule_text.specs.Report.{Link, link_line, report}
+
+-- the peer of the connection ends its stream by this act
+abbrev pub is_end_of : ℕ → Act → Bool
+is_end_of conn (act.End other) = nat_eq other.0 conn
+is_end_of conn _ = false
+
+-- reads of the connection fail from this act on
+abbrev pub is_fault_of : ℕ → Act → Bool
+is_fault_of conn (act.ReadFails other) = nat_eq other.0 conn
+is_fault_of conn _ = false
+
+-- nothing more comes
+abbrev pub is_stop : NetEvent → Bool
+is_stop event.Stop = true
+is_stop _ = false
+
+-- an act that ends a turn
+abbrev pub is_turn_act : Act → Bool
+is_turn_act act.Turn = true
+is_turn_act _ = false
+
+-- The notes, the net and what is held for each connection, with these texts of replies: all acts were done, the run is right, and
+-- all is settled.
+pub record IsReplayed (config : ConfigValue) (table : RouteTable) (acts : List Act) (notes : List NoteValue) (net : NetState) (held : ℕ → List ℕ) (replies : ℕ → List ℕ) : Type 0 where
+  pub right : Right (echo_server replies) config table notes net tt held
+  pub settled : Settled (echo_server replies) notes net (record { pending = 0; gathered = []; backlog = held })
+  -- a connection that is still read was given all of its octets, and no act ends them
+  pub given : (conn : ℕ) → is_reading (phase (echo_server replies) notes conn) ≡ true → net.given conn ≡ sent conn acts
+  pub unended : (conn : ℕ) → is_reading (phase (echo_server replies) notes conn) ≡ true → list_any (is_ending conn) acts ≡ false
+  -- a connection is gone by the peer's end only where an act says so and all of its octets were given, and by a failed link only
+  -- where an act says so
+  pub ended : (conn : ℕ) → is_accepted conn notes ≡ true → is_gone_by_in conn PeerEnd notes ≡ true → (list_any (is_end_of conn) acts ≡ true) × (net.given conn ≡ sent conn acts)
+  pub failed : (conn : ℕ) → is_accepted conn notes ≡ true → is_gone_by_in conn LinkFailed notes ≡ true → list_any (is_fault_of conn) acts ≡ true
+
+-- the links of the connections that were accepted, in order: how many octets are held, and those that were taken
+abbrev pub links_of : (ℕ → List ℕ) → (ℕ → List ℕ) → List NoteValue → List Link
+links_of held taken notes = map (λ conn. record { conn = conn; held = length (held conn); octets = taken conn }) (gather accepted_by notes)
+
+-- the lines of links
+abbrev pub all_link_lines : List Link → List ℕ
+all_link_lines links = flat_map (λ link. link_line link.conn link.held link.octets) links
+
+-- these octets are the report of a run of these acts, over a net in memory of which all acts were done, and then nothing more came
+pub record IsReport (config : ConfigValue) (table : RouteTable) (acts : List Act) (octets : List ℕ) : Type 0 where
+  pub notes : List NoteValue
+  pub net : MemNetState
+  pub held : ℕ → List ℕ
+  pub text : octets ≡ report notes (links_of held (net_state net).taken notes)
+  pub acts_are : net.acts ≡ acts
+  pub follows : FollowsSchedule net
+  pub used : net.done ≡ length acts
+  pub passed : (net_state net).passed ≡ passes acts ++ event.Stop ∷ []
+  pub run : (replies : ℕ → List ℕ) → AreReplies table notes (net_state net).given replies → IsReplayed config table acts notes (net_state net) held replies
