@@ -1,20 +1,6 @@
 -- Control frames.
-use Rattle.std.specs.Prelude.{◌==◌}
-use Rattle.std.proofs.Common.{◌≡◌, ℕ, ◌+◌, ◌-◌, ◌<◌, ◌≤◌, Bool, true, false, List, [], ◌∷◌, ◌++◌, length, take, drop, Option, Some, None, refl, sym, ap, ◌∙◌, append_assoc, arith, rules, length-drop, length-append, length-take}
-use Rattle.std.proofs.lemmas.Bool.{eq-eqb, ne_eqb}
-use Rattle.std.proofs.lemmas.List.{same_lists, places, drop-drop, append-nil, take-append-le, drop-append-le, length-take-le, drop_at, take_at}
-use Rattle.wire_meaning.specs.declared.frame.Opcode.{Opcode}
-use Rattle.wire_meaning.specs.declared.frame.Opcode.TheVariants.{Continuation, Begins, Close, Ping, Pong, Reserved}
-use Rattle.wire_meaning.specs.Mask.{unmasked}
-use Rattle.wire_meaning.specs.Event.{ping, pong, closed, closing}
-use Rattle.wire_meaning.specs.Reading.{Begun, more, ends, gives, is_control, frame_front, events_from, reads}
-use Rattle.wire_meaning.proofs.MaskLemmas.{length-unmasked}
-use Rattle.frame_reader.specs.declared.header.FrameHeader.{FrameHeader}
-use Rattle.frame_reader.specs.declared.reader.EventSpan.{EventSpan}
+use Rattle.frame_reader.proofs.Below.{◌==◌, ◌≡◌, ℕ, ◌+◌, ◌-◌, ◌<◌, ◌≤◌, Bool, true, false, List, [], ◌∷◌, ◌++◌, length, take, drop, Option, Some, None, refl, sym, ap, ◌∙◌, append_assoc, arith, rules, length-drop, length-append, length-take, eq-eqb, ne_eqb, same_lists, places, drop-drop, append-nil, take-append-le, drop-append-le, length-take-le, drop_at, take_at, Opcode, Continuation, Begins, Close, Ping, Pong, Reserved, unmasked, ping, pong, closed, closing, Begun, more, ends, gives, is_control, frame_front, events_from, reads, length-unmasked, FrameHeader, EventSpan, behind, IsHeader, last, span_event, lent_of, is_last, CloseIs}
 use Rattle.frame_reader.specs.declared.reader.EventSpan.TheVariants as span
-use Rattle.frame_reader.specs.Header.{behind, IsHeader}
-use Rattle.frame_reader.specs.Parsed.{last, span_event, lent_of, is_last}
-use Rattle.frame_reader.specs.Close.{CloseIs}
 use Rattle.frame_reader.proofs.EnterLemmas.{behind_header}
 
 -- ---- a control frame that is not whole

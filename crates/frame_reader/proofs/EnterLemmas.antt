@@ -1,20 +1,5 @@
 -- What a header that is whole leads to.
-use Rattle.std.proofs.Common.{◌≡◌, ℕ, ◌+◌, List, [], ◌∷◌, ◌++◌, drop, Option, Some, None, refl, sym, ap, subst, ◌∙◌}
-use Rattle.std.proofs.lemmas.List.{drop-drop, append-nil}
-use Rattle.ws_kinds.specs.declared.kind.Kind.{Kind}
-use Rattle.wire_meaning.specs.declared.frame.Opcode.{Opcode}
-use Rattle.wire_meaning.specs.declared.frame.Opcode.TheVariants.{Continuation, Begins, Close, Ping, Pong, Reserved}
-use Rattle.wire_meaning.specs.Event.{failed}
-use Rattle.wire_meaning.specs.Reading.{Begun, Front, more, ends, begun_octets, events_from, front_at, reads}
-use Rattle.wire_meaning.proofs.ReadingLemmas.{reads_is}
-use Rattle.wire_meaning.proofs.GrowthLemmas.{Extends, front_extends}
-use Rattle.frame_reader.specs.declared.header.FrameHeader.{FrameHeader}
-use Rattle.frame_reader.specs.declared.data_frame.DataFrame.{DataFrame}
-use Rattle.frame_reader.specs.declared.reader.State.{State}
-use Rattle.frame_reader.specs.declared.reader.State.TheVariants.{AtFrameStart}
-use Rattle.frame_reader.specs.Header.{kind_in, behind, IsHeader}
-use Rattle.frame_reader.specs.Middle.{Middle, middle_front}
-use Rattle.frame_reader.specs.State.{begun_of, middle_of, coming}
+use Rattle.frame_reader.proofs.Below.{◌≡◌, ℕ, ◌+◌, List, [], ◌∷◌, ◌++◌, drop, Option, Some, None, refl, sym, ap, subst, ◌∙◌, drop-drop, append-nil, Kind, Opcode, Continuation, Begins, Close, Ping, Pong, Reserved, failed, Begun, Front, more, ends, begun_octets, events_from, front_at, reads, reads_is, Extends, front_extends, FrameHeader, DataFrame, State, AtFrameStart, kind_in, behind, IsHeader, Middle, middle_front, begun_of, middle_of, coming}
 
 pub coming_at_start : (max : ℕ) (state : State) (kind : Option Kind) (all octets : List ℕ) → state ≡ AtFrameStart kind → coming max state all octets ≡ reads max (begun_of kind all) octets
 coming_at_start max state kind all octets e = ap (λ s. coming max s all octets) e

@@ -1,20 +1,5 @@
 -- What the parts of a header say of the frame at the front.
-use Rattle.std.specs.Prelude.{◌==◌, not}
-use Rattle.std.proofs.Common.{◌≡◌, ℕ, suc, ◌+◌, ◌-◌, ◌^◌, ◌<◌, ◌≤◌, Bool, true, false, cond, nat_lt, nat_le, ◌&&◌, ◌||◌, List, [], ◌∷◌, ◌++◌, length, take, drop, Option, Some, None, refl, sym, ap, subst, ◌∙◌, arith, inl, inr, length-drop}
-use Rattle.std.specs.Int.{Width, w16, w64, byte_len, from_be_bytes}
-use Rattle.std.proofs.lemmas.Bool.{cases_lt, le-ltb, lt-ltb}
-use Rattle.std.proofs.lemmas.List.{drop-drop}
-use Rattle.wire_meaning.specs.declared.frame.Opcode.{Opcode}
-use Rattle.wire_meaning.specs.declared.frame.Opcode.TheVariants.{Continuation, Begins, Close, Ping, Pong, Reserved}
-use Rattle.wire_meaning.specs.Mask.{unmasked}
-use Rattle.wire_meaning.specs.Event.{failed}
-use Rattle.wire_meaning.specs.Frame.{Opening, is_final, has_reserved_bit, opcode_of, is_masked, seven_bits, octets_at, number_at, size_at, key_at, with_key, with_size}
-use Rattle.wire_meaning.specs.Reading.{Begun, Front, more, ends, is_reserved, is_control, is_data, is_out_of_turn, begun_octets, is_over, refuses_first, refuses_second, frame_front, body_front, unless_breach, front_at}
-use Rattle.wire_meaning.proofs.ReadingLemmas.{control_short, size_part}
-use Rattle.wire_meaning.proofs.GrowthLemmas.{Grows, front_grows, size_grows, code_of, size_of, code_at, breach_sized}
-use Rattle.frame_reader.specs.declared.header.MessageState.{MessageState}
-use Rattle.frame_reader.specs.declared.header.FrameHeader.{FrameHeader}
-use Rattle.frame_reader.specs.Header.{opened, Describes, behind, IsHeader}
+use Rattle.frame_reader.proofs.Below.{◌==◌, not, ◌≡◌, ℕ, suc, ◌+◌, ◌-◌, ◌^◌, ◌<◌, ◌≤◌, Bool, true, false, cond, nat_lt, nat_le, ◌&&◌, ◌||◌, List, [], ◌∷◌, ◌++◌, length, take, drop, Option, Some, None, refl, sym, ap, subst, ◌∙◌, arith, inl, inr, length-drop, Width, w16, w64, byte_len, from_be_bytes, cases_lt, le-ltb, lt-ltb, drop-drop, Opcode, Continuation, Begins, Close, Ping, Pong, Reserved, unmasked, failed, Opening, is_final, has_reserved_bit, opcode_of, is_masked, seven_bits, octets_at, number_at, size_at, key_at, with_key, with_size, Begun, Front, more, ends, is_reserved, is_control, is_data, is_out_of_turn, begun_octets, is_over, refuses_first, refuses_second, frame_front, body_front, unless_breach, front_at, control_short, size_part, Grows, front_grows, size_grows, code_of, size_of, code_at, breach_sized, MessageState, FrameHeader, opened, Describes, behind, IsHeader}
 
 -- ---- what a message that is open does to a header
 
@@ -65,11 +50,6 @@ by_over true two size top over front o t p e = absurd cc
 by_over false true size top over front o t p e = absurd cc
 by_over false false size top over front o t p e = rw (p, e) refl
 
-none_yet : (one two : Bool) (top over : ℕ → Bool) (front : Front) → one ≡ false → two ≡ false → unless_breach (code_of one two None top over) front ≡ front
-none_yet true two top over front o t = absurd cc
-none_yet false true top over front o t = absurd cc
-none_yet false false top over front o t = refl
-
 none_at_all : (one two : Bool) (size : ℕ) (top over : ℕ → Bool) (front : Front) → one ≡ false → two ≡ false → top size ≡ false → over size ≡ false → unless_breach (code_of one two (Some size) top over) front ≡ front
 none_at_all true two size top over front o t p e = absurd cc
 none_at_all false true size top over front o t p e = absurd cc
@@ -84,17 +64,6 @@ front_two : (max : ℕ) (begun : Option Begun) (first second : ℕ) (octets : Li
     → front_at max begun (first ∷ second ∷ octets) ≡ unless_breach (code_at max begun first second (size_of (size_at second octets))) (body_of begun (with_size first second (size_at second octets)))
 front_two max begun first second octets =
     ap (λ code. unless_breach code (body_of begun (with_size first second (size_at second octets)))) (breach_sized max begun first second (size_at second octets))
-
-pub at_none : (max : ℕ) (begun : Option Begun) (raw : List ℕ) → length raw ≡ 0 → (front_at max begun raw ≡ more) × (length raw ≤ 13)
-at_none max begun [] e = (refl, omega arith)
-at_none max begun (x ∷ raw) e = absurd (omega arith)
-
-pub at_one : (max : ℕ) (begun : Option Begun) (raw : List ℕ) (first : ℕ) (rest : List ℕ) → raw ≡ first ∷ rest → length rest ≡ 0 → refuses_first begun first ≡ false → (front_at max begun raw ≡ more) × (length raw ≤ 13)
-at_one max begun raw first [] is n e = rw is (one (refuses_first begun first) e, omega arith) where
-  one : (refused : Bool) → refused ≡ false → unless_breach (cond refused (Some 1002) None) more ≡ more
-  one true e = absurd cc
-  one false e = refl
-at_one max begun raw first (x ∷ rest) is n e = absurd (omega arith)
 
 pub refused_first : (max : ℕ) (begun : Option Begun) (raw : List ℕ) (first : ℕ) (rest : List ℕ) → raw ≡ first ∷ rest → refuses_first begun first ≡ true → front_at max begun raw ≡ ends (failed 1002)
 refused_first max begun raw first [] is e = rw is (one (refuses_first begun first) e) where
@@ -141,28 +110,6 @@ pub refused_over : (max : ℕ) (begun : Option Begun) (raw : List ℕ) (first se
 refused_over max begun raw first second octets size rest s lt e =
     at_two max begun raw first second octets (Some (size, rest)) s.two s.size_is
     ∙ by_over (refuses_first begun first) (refuses_second first second) size (nat_le (2 ^ 63)) (is_over max begun first) (body_of begun (with_size first second (Some (size, rest)))) s.two.fine s.second_fine lt e
-
--- how few octets are there where a part is not whole
-number_short : (w : Width) (octets : List ℕ) → number_at w octets ≡ None → length octets < byte_len w
-number_short w octets e = elim (cases_lt (length octets) (byte_len w)) [
-  | inl short ↦ short
-  | inr long ↦ absurd (let there : number_at w octets ≡ Some (from_be_bytes w (take (byte_len w) octets), drop (byte_len w) octets) = rw (le-ltb (length octets) (byte_len w) long) refl in cc)
-]
-
-size_short : (second : ℕ) (octets : List ℕ) → size_at second octets ≡ None → length octets < 8
-size_short second octets e = chosen (seven_bits second == 126) (seven_bits second == 127) e where
-  chosen : (one two : Bool) → cond one (number_at w16 octets) (cond two (number_at w64 octets) (Some (seven_bits second, octets))) ≡ None → length octets < 8
-  chosen true two e = let h = number_short w16 octets e in omega arith
-  chosen false true e = number_short w64 octets e
-  chosen false false e = absurd cc
-
-pub size_absent : (max : ℕ) (begun : Option Begun) (raw : List ℕ) (first second : ℕ) (octets : List ℕ) → Two begun raw first second octets → refuses_second first second ≡ false → size_at second octets ≡ None
-    → (front_at max begun raw ≡ more) × (length raw ≤ 13)
-size_absent max begun raw first second octets t f e = (
-  at_two max begun raw first second octets None t e
-      ∙ none_yet (refuses_first begun first) (refuses_second first second) (nat_le (2 ^ 63)) (is_over max begun first) more t.fine f,
-  let n : length raw ≡ suc (suc (length octets)) = ap length t.is in let h = size_short second octets e in omega arith,
-)
 
 abbrev rest_part : Option (ℕ × List ℕ) → List ℕ
 rest_part None = []
@@ -214,16 +161,6 @@ at_key max begun raw first second octets size rest part f e =
     at_two max begun raw first second octets (Some (size, rest)) f.sized.two f.sized.size_is
     ∙ none_at_all (refuses_first begun first) (refuses_second first second) size (nat_le (2 ^ 63)) (is_over max begun first) (body_of begun (with_size first second (Some (size, rest)))) f.sized.two.fine f.sized.second_fine f.low f.fits
     ∙ ap (λ p. body_of begun (with_key first second size p)) (key_at_four second rest (masked_of first second f.sized.second_fine) ∙ e)
-
-pub key_absent : (max : ℕ) (begun : Option Begun) (raw : List ℕ) (first second : ℕ) (octets : List ℕ) (size : ℕ) (rest : List ℕ) → Fine max begun raw first second octets size rest → length rest < 4
-    → (front_at max begun raw ≡ more) × (length raw ≤ 13)
-key_absent max begun raw first second octets size rest f short = (
-  at_key max begun raw first second octets size rest None f (rw (lt-ltb (length rest) 4 short) refl),
-  let n : length raw ≡ suc (suc (length octets)) = ap length f.sized.two.is in
-      let p = size_past second octets size rest f.sized.size_is in
-      let a = p.few in let b = p.within in
-      omega (arith, ap length p.is, length-drop p.count octets),
-)
 
 -- more octets behind the header
 fine_grown : (max : ℕ) (begun : Option Begun) (raw : List ℕ) (first second : ℕ) (octets : List ℕ) (size : ℕ) (rest ys : List ℕ) → Fine max begun raw first second octets size rest

@@ -5,3 +5,5 @@ pub mod StepLemmas
 pub mod EnterLemmas
 pub mod ControlLemmas
 pub mod RawLemmas
+pub mod Below
+pub mod All

@@ -1,9 +1,5 @@
 -- One more octet without its mask.
-use Rattle.std.proofs.Common.{◌≡◌, ℕ, ◌+◌, ◌%◌, ◌<◌, List, [], ◌∷◌, ◌++◌, length, get_or, take, drop, set, refl, ap, ◌∙◌, arith}
-use Rattle.std.specs.Prelude.{bit_xor}
-use Rattle.std.proofs.lemmas.List.{drop-set-lt, take_more_set}
-use Rattle.wire_meaning.specs.Mask.{unmasked}
-use Rattle.wire_meaning.proofs.MaskLemmas.{unmasked_turn}
+use Rattle.frame_reader.proofs.Below.{◌≡◌, ℕ, ◌+◌, ◌%◌, ◌<◌, List, [], ◌∷◌, ◌++◌, length, get_or, take, drop, set, refl, ap, ◌∙◌, arith, bit_xor, drop-set-lt, take_more_set, unmasked, unmasked_turn}
 
 pub unmasked_set : (key xs total : List ℕ) (at i : ℕ) → at < 4 → i < length xs → take i xs ++ unmasked key at (drop i xs) ≡ total
     → take (i + 1) (set xs i (bit_xor (get_or xs i 0) (get_or key at 0))) ++ unmasked key ((at + 1) % 4) (drop (i + 1) (set xs i (bit_xor (get_or xs i 0) (get_or key at 0)))) ≡ total

@@ -1,16 +1,5 @@
 -- A data frame whose payload comes in pieces.
-use Rattle.std.specs.Prelude.{not, ◌==◌}
-use Rattle.std.proofs.Common.{◌≡◌, ℕ, zero, suc, ◌+◌, ◌-◌, ◌%◌, ◌<◌, ◌≤◌, true, false, ◌&&◌, List, [], ◌++◌, length, take, drop, refl, sym, ap, ◌∙◌, append_assoc, arith, inl, inr, length-append}
-use Rattle.std.proofs.lemmas.Bool.{and_parts, not-true, cases_eq, ne_eqb, eq-eqb}
-use Rattle.std.proofs.lemmas.List.{append-nil, take-append-drop, drop-drop, length-take-le}
-use Rattle.std.proofs.Math.Seq.{take-append-add, drop-append-add}
-use Rattle.wire_meaning.specs.Mask.{unmasked}
-use Rattle.wire_meaning.specs.Text.{is_text_front}
-use Rattle.wire_meaning.specs.Event.{failed}
-use Rattle.wire_meaning.specs.Reading.{more, ends, is_text, data_front}
-use Rattle.wire_meaning.proofs.MaskLemmas.{unmasked-append, unmasked_turned}
-use Rattle.wire_meaning.proofs.TextFront.{not_front}
-use Rattle.frame_reader.specs.Middle.{Middle, middle_front, moved}
+use Rattle.frame_reader.proofs.Below.{not, ◌==◌, ◌≡◌, ℕ, zero, suc, ◌+◌, ◌-◌, ◌%◌, ◌<◌, ◌≤◌, true, false, ◌&&◌, List, [], ◌++◌, length, take, drop, refl, sym, ap, ◌∙◌, append_assoc, arith, inl, inr, length-append, and_parts, not-true, cases_eq, ne_eqb, eq-eqb, append-nil, take-append-drop, drop-drop, length-take-le, take-append-add, drop-append-add, unmasked, is_text_front, failed, ends, is_text, data_front, unmasked-append, unmasked_turned, not_front, Middle, middle_front, moved}
 
 same_test : (n k left : ℕ) → n ≤ left → (n + k == left) ≡ (k == left - n)
 same_test n k left p = elim (cases_eq k (left - n)) [
@@ -34,23 +23,6 @@ middle_moves m xs ys p =
 -- text that no continuation makes UTF-8 fails, whatever comes
 pub middle_fails : (m : Middle) (ys : List ℕ) → is_text m.kind ≡ true → is_text_front m.all ≡ false → middle_front m ys ≡ ends (failed 1007)
 middle_fails m ys text e = rw (text, not_front m.all (unmasked m.key m.place (take m.left ys)) e) refl
-
--- the frame is whole
-pub middle_whole : (m : Middle) (ys : List ℕ) → m.left ≡ 0 → middle_front m ys ≡ data_front m.final true m.kind m.all ys
-middle_whole m ys e = rw (e, append-nil m.all) refl
-
--- the frame is not whole, and its text may still become UTF-8
-pub middle_waits : (m : Middle) → 0 < m.left → (is_text m.kind && not (is_text_front m.all)) ≡ false → middle_front m [] ≡ more
-middle_waits m p e =
-    let none : take m.left [] ≡ [] = take_none m.left in
-    let test : (length (take m.left []) == m.left) ≡ false = ap (λ (l : List ℕ). length l == m.left) none ∙ ne_eqb 0 m.left (omega arith) in
-    let all : m.all ++ unmasked m.key m.place (take m.left []) ≡ m.all = ap (λ (l : List ℕ). m.all ++ unmasked m.key m.place l) none ∙ append-nil m.all in
-    ap (λ b. data_front m.final b m.kind (m.all ++ unmasked m.key m.place (take m.left [])) (drop m.left [])) test
-    ∙ ap (λ (l : List ℕ). data_front m.final false m.kind l (drop m.left [])) all ∙ rw e refl
-  where
-    take_none : (n : ℕ) → take {A = ℕ} n [] ≡ []
-    take_none zero = refl
-    take_none (suc n) = refl
 
 abbrev pub middle_at : Middle → List ℕ → ℕ → ℕ → Middle
 middle_at m all left place = record { final = m.final; kind = m.kind; all = all; left = left; key = m.key; place = place }

@@ -1,11 +1,5 @@
 -- What holds of any reader's raw octets, and of a reader that is unread.
-use Rattle.std.proofs.Common.{◌≡◌, ℕ, ◌+◌, true, List, ◌++◌, length, Some, None, refl, ap, arith, length-drop}
-use Rattle.wire_meaning.specs.Reading.{reading}
-use Rattle.frame_reader.specs.declared.reader.Reader.{Reader}
-use Rattle.frame_reader.specs.declared.reader.State.{State}
-use Rattle.frame_reader.specs.declared.reader.State.TheVariants.{AtFrameStart, InDataFrame, Ended}
-use Rattle.frame_reader.specs.State.{coming}
-use Rattle.frame_reader.specs.Reader.{raw_of, max_of, room_of, ahead, is_at_start, is_unread}
+use Rattle.frame_reader.proofs.Below.{◌≡◌, ℕ, ◌+◌, true, List, ◌++◌, length, Some, None, refl, ap, arith, length-drop, reading, Reader, State, AtFrameStart, InDataFrame, Ended, coming, raw_of, max_of, room_of, ahead, is_at_start, is_unread}
 
 -- the raw octets and the room for more are together what fits
 pub room_and_raw : (r : Reader) → room_of r + length (raw_of r) ≡ max_of r + 8448

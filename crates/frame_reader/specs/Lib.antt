@@ -5,3 +5,4 @@ pub mod Reader
 pub mod Parsed
 pub mod Close
 pub mod Step
+pub mod All

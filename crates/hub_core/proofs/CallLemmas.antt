@@ -1,63 +1,11 @@
 -- What calls of a hub do, put together from what they do to the hub's state, to the watch and to the net.
-use Rattle.std.proofs.Common.{◌≡◌, ◌≢◌, ◌<◌, ◌≤◌, inl, inr, ℕ, List, [], ◌∷◌, ◌++◌, Option, Some, None, Bool, true, false, cond, not, is_some, ◌==◌, IsTrue, nat_eq, length, refl, sym, ap, ◌∙◌, subst, arith}
-use Rattle.std.proofs.lemmas.Bool.Decides.{nat_tests}
-use Rattle.std.specs.Int.{w16, to_be_bytes}
-use Rattle.ws_kinds.specs.declared.kind.Kind.{Kind}
-use Rattle.ws_kinds.specs.declared.kind.Kind.TheVariants.{Text, Binary}
-use Rattle.ws_kinds.specs.declared.note.Why.{Why}
-use Rattle.ws_kinds.specs.declared.note.Phase.{Phase}
-use Rattle.ws_kinds.specs.declared.note.Phase.TheVariants.{Head, Open, Leaving, Ending, Gone}
+use Rattle.hub_core.proofs.Below.{◌≡◌, ◌≢◌, ◌<◌, ◌≤◌, inl, inr, ℕ, List, [], ◌∷◌, ◌++◌, Option, Some, None, Bool, true, false, cond, not, is_some, ◌==◌, IsTrue, nat_eq, length, refl, sym, ap, ◌∙◌, subst, arith, nat_tests, Kind, Text, Binary, Why, Phase, Head, Open, Leaving, Ending, Gone, NoteValue, IsNoted, NetState, Opcode, Begins, opcode_number, Item, is_sent_opcode, is_of, is_open, topics_left, Tell, marked, nothing_told, tell_by, QuietCount, new_count, one_heard, is_reading, is_silent, is_dropped, ShortWhereHeld, HubState, Entry, PartingValue, Server, server, entry_at, no_entry, new_entry, is_gone, has_entry, entry_of, is_present, phase_at, cork_at, pending_at, ring_at, Held, held_at, KeepsLine, Starts, nothing, only, served, Ties, entry_added, entry_new, line_gone, line_still, starts_of, lines_elsewhere_then, Progress, due_of, due_at, topics_at, progress_at, progress_by, may_come, tell_at, CountsBy, counts_at, leaves_at, unless_gone, KeepsFront, Appends, by_cases, clash, or_left, or_right, of_here, of_other, same_counts, proceeds_then, proceeds_first, appends_same, appends_as, appends_after_nothing, TableState, ChangesOne, IsTable, is_kept, TakesDue, table_of, Taken, Arrives, Makes, has_frames, IsSent, Puttable, Kept, ChangesHub, Ends, Notes, Sends, Puts, hub_of, falsely, truly}
 use Rattle.ws_kinds.specs.NoteValue as note
-use Rattle.ws_kinds.specs.NoteValue.{NoteValue}
-use Rattle.ws_kinds.specs.Watch.{IsNoted}
-use Rattle.link_trait.specs.NetState.{NetState}
-use Rattle.wire_meaning.specs.declared.frame.Opcode.TheVariants.{Begins, Close}
-use Rattle.wire_meaning.specs.Frame.{opcode_number}
-use Rattle.wire_meaning.specs.Answer.{Item, whole, close_item}
-use Rattle.frame_writer.specs.Header.{is_sent_opcode}
-use Rattle.run_meaning.specs.Notes.{is_of}
-use Rattle.run_meaning.specs.Lines.{is_open, topics_left}
-use Rattle.run_meaning.specs.Tell.{Tell, marked, nothing_told, tell_by}
-use Rattle.run_meaning.specs.Quiet.{QuietCount, new_count, one_heard}
-use Rattle.run_meaning.specs.Settled.{is_reading}
-use Rattle.hub_lines.specs.Told.{is_silent, is_dropped, ShortWhereHeld}
-use Rattle.hub_lines.specs.State.{HubState, Entry, PartingValue, Server, server, entry_at, no_entry, new_entry, is_gone, has_entry, entry_of, is_present, phase_at, cork_at, pending_at, ring_at}
-use Rattle.hub_lines.specs.Lines.{Held, held_at}
-use Rattle.hub_lines.specs.Calls.{KeepsLine, Starts, nothing, only, served, Ties}
-use Rattle.hub_lines.proofs.EntryLemmas.{entry_added, entry_new}
-use Rattle.hub_lines.proofs.LineLemmas.{line_gone, line_still}
-use Rattle.hub_lines.proofs.CallLemmas.{starts_of, lines_elsewhere_then}
-use Rattle.hub_notes.specs.Progress.{Progress, due_of, due_at, topics_at, progress_at, progress_by, may_come}
-use Rattle.hub_notes.specs.Tells.{tell_at}
-use Rattle.hub_notes.specs.Quiet.{CountsBy, counts_at, leaves_at}
-use Rattle.run_meaning.specs.Orders.{unless_gone}
-use Rattle.hub_notes.specs.Fronts.{KeepsFront}
-use Rattle.hub_notes.specs.Calls.{Appends}
-use Rattle.hub_notes.proofs.BoolLemmas.{by_cases, clash, or_left, or_right}
-use Rattle.hub_notes.proofs.NoteLemmas.{same_counts}
-use Rattle.hub_notes.proofs.CallLemmas.{proceeds_then, proceeds_first}
-use Rattle.hub_notes.proofs.FrontLemmas.{appends_same, appends_as, appends_after_nothing}
-use Rattle.hub_notes.specs.Table.{TableState, ChangesOne, IsTable, is_kept, TakesDue, table_of}
-use Rattle.hub_notes.specs.declared.arrival.Arrival.TheVariants.{Taken}
-use Rattle.hub_notes.specs.Answers.{Arrives, Makes, has_frames}
-use Rattle.socket_core.specs.Items.{IsSent}
-use Rattle.socket_core.specs.declared.item.Item.{Item as Puttable}
-use Rattle.socket_core.specs.declared.socket.Kept.{Kept}
-use Rattle.hub_core.specs.Changes.{ChangesHub, Ends}
-use Rattle.hub_core.specs.Sends.{Notes, Sends}
-use Rattle.hub_core.specs.Puts.{Puts}
-use Rattle.hub_core.specs.State.{hub_of}
 use Rattle.hub_core.proofs.HubSteps.{Enters}
 use Rattle.hub_core.proofs.StateLemmas.{progress_of, plain_change, change_named}
-use Rattle.hub_core.proofs.NoteLemmas.{is_inner, NotesOne, Notices, notices_none, notices_entered, advances_noted, fails_noted, appends_noted, notes_none, notes_entered, Still, StillOrNew, still_of, still_same, items_still, same_or_not, falsely, truly}
+use Rattle.hub_core.proofs.NoteLemmas.{is_inner, NotesOne, Notices, notices_none, notices_entered, advances_noted, fails_noted, appends_noted, notes_none, notes_entered, Still, StillOrNew, still_of, still_same, items_still, same_or_not}
 
 -- ---- numbers that notes name
-
-pub of_here : (c : ℕ) → nat_eq c c ≡ true
-of_here c = grind (arith, nat_tests)
-
-pub of_other : (c d : ℕ) → d ≢ c → nat_eq c d ≡ false
-of_other c d ne = grind (arith, nat_tests)
 
 -- ---- phases
 
@@ -67,18 +15,6 @@ known false at phase e = cc
 
 pub phase_known : (hub : HubState) (c : ℕ) (phase : Phase) → phase_at hub c ≡ Some phase → (entry_at hub c).phase ≡ phase
 phase_known hub c phase e = (known (has_entry hub.entries c) (entry_at hub c).phase phase e).1
-
-read_not_gone : (has : Bool) (at : Phase) → is_reading (cond has (Some at) None) ≡ true → is_gone at ≡ false
-read_not_gone true Head e = refl
-read_not_gone true Open e = refl
-read_not_gone true Leaving e = refl
-read_not_gone true Ending e = refl
-read_not_gone true Gone e = clash false refl e
-read_not_gone false at e = clash false refl e
-
--- a connection that is read is not gone
-pub read_is_present : (hub : HubState) (c : ℕ) → is_reading (phase_at hub c) ≡ true → is_present hub c ≡ true
-read_is_present hub c e = ap not (read_not_gone (has_entry hub.entries c) (entry_at hub c).phase e)
 
 -- ---- octets that were read, and a pong
 
@@ -313,7 +249,7 @@ module _ {c code : ℕ} {reason : List ℕ} {was : Bool} {a b : HubState} (x : E
 abbrev pub with_accepted : HubState → ℕ → HubState
 with_accepted a c = record a { named = c; entries = a.entries ++ new_entry a.config c ∷ [] }
 
-gone_phase : (phase : Phase) → is_gone phase ≡ true → unless_gone (Some phase) ≡ None
+pub gone_phase : (phase : Phase) → is_gone phase ≡ true → unless_gone (Some phase) ≡ None
 gone_phase Gone e = refl
 gone_phase Head e = clash false refl e
 gone_phase Open e = clash false refl e
@@ -513,12 +449,9 @@ ties_taken (Some parting) a b net t takes ties = ties_forgotten (plain_forgets p
 
 -- ---- frames that are put
 
+pub number_is_sent : (opcode : Opcode) (number : ℕ) → IsTrue (is_sent_opcode (opcode_number opcode)) → number ≡ opcode_number opcode → IsTrue (is_sent_opcode number)
+number_is_sent opcode number sent e = subst (λ (z : ℕ). IsTrue (is_sent_opcode z)) (sym e) sent
+
 pub message_is_sent : (kind : Kind) (number : ℕ) → number ≡ opcode_number (Begins kind) → IsTrue (is_sent_opcode number)
-message_is_sent Text number e = subst (λ (z : ℕ). IsTrue (is_sent_opcode z)) (sym e) refl
-message_is_sent Binary number e = subst (λ (z : ℕ). IsTrue (is_sent_opcode z)) (sym e) refl
-
-pub close_is_empty : (code : ℕ) (payload : List ℕ) → (code == 1005) ≡ true → payload ≡ [] → close_item code ≡ whole Close payload
-close_is_empty code payload e empty = ap (λ (z : Bool). whole Close (cond z [] (to_be_bytes w16 code))) e ∙ ap (whole Close) (sym empty)
-
-pub close_is_code : (code : ℕ) (payload : List ℕ) → (code == 1005) ≡ false → payload ≡ to_be_bytes w16 code → close_item code ≡ whole Close payload
-close_is_code code payload e same = ap (λ (z : Bool). whole Close (cond z [] (to_be_bytes w16 code))) e ∙ ap (whole Close) (sym same)
+message_is_sent Text number e = number_is_sent (Begins Text) number refl e
+message_is_sent Binary number e = number_is_sent (Begins Binary) number refl e

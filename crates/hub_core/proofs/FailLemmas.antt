@@ -1,64 +1,27 @@
 -- What it leaves of a hub that an item is put for a connection whose link fails: it is gone.
-use Rattle.std.proofs.Common.{◌≡◌, ◌≢◌, ◌<◌, ◌≤◌, ◌+◌, ◌^◌, ◌-◌, ◌⊎◌, inl, inr, ℕ, List, [], ◌∷◌, ◌++◌, length, Bool, true, false, nat_eq, ◌&&◌, ◌||◌, refl, sym, ap, ◌∙◌, subst, append-nil, arith, ⊎_elim}
-use Rattle.std.proofs.lemmas.Bool.{cases_eq}
-use Rattle.std.proofs.lemmas.Bool.Decides.{nat_tests}
-use Rattle.ws_kinds.specs.declared.note.Left.TheVariants.{LinkFailed}
+use Rattle.hub_core.proofs.Below.{◌≡◌, ◌≢◌, ◌<◌, ◌≤◌, ◌+◌, ◌^◌, ◌-◌, ◌⊎◌, inl, inr, ℕ, List, [], ◌∷◌, ◌++◌, length, Bool, true, false, nat_eq, ◌&&◌, ◌||◌, refl, sym, ap, ◌∙◌, subst, append-nil, arith, ⊎_elim, cases_eq, nat_tests, LinkFailed, NoteValue, CountsFault, number_of, is_gone_by_in, taken_of, Server, entry_at, numbered_at, ring_at, cork_at, pending_at, is_gone, is_present, Stands, StandsFor, buffered_at, with_pending, Beside, Ties, SameLinesElsewhere, ShortRings, only, stands_point, keeps_only, beside_then, line_gone, only_here, only_other, lines_elsewhere_then, is_link_failure, RoseBy, FailsAfter, TakesFront, FailsWithin, KeepsFront, KeepsFronts, Advances, Proceeds, Appends, clash, or_none, same_number, other_number, outgoing_both, advances_then, front_then, IsSent, Failed, PutsItem, Leaves}
 use Rattle.ws_kinds.specs.NoteValue as note
-use Rattle.ws_kinds.specs.NoteValue.{NoteValue}
-use Rattle.link_trait.specs.Link.{Rose}
 use Rattle.wire_meaning.specs.Answer as answer
-use Rattle.wire_meaning.specs.Answer.{spelled}
-use Rattle.run_meaning.specs.Counts.{number_of, is_gone_by_in}
-use Rattle.hub_lines.specs.Told.{taken_of}
-use Rattle.hub_lines.specs.State.{Server, entry_at, numbered_at, ring_at, cork_at, pending_at, is_gone, is_present}
-use Rattle.hub_lines.specs.Lines.{Stands, StandsFor}
-use Rattle.hub_lines.specs.Moves.{buffered_at, with_pending}
-use Rattle.hub_lines.specs.Calls.{Beside, Ties, SameLinesElsewhere, ShortRings, only}
-use Rattle.hub_lines.proofs.StepLemmas.{stands_point}
-use Rattle.hub_lines.proofs.LineLemmas.{keeps_only, beside_then, line_gone, only_here, only_other}
-use Rattle.hub_lines.proofs.CallLemmas.{lines_elsewhere_then}
-use Rattle.run_meaning.specs.Performs.{is_link_failure}
-use Rattle.hub_notes.specs.NetAfter.{RoseBy, FailsAfter}
-use Rattle.hub_lines.specs.Fronts.{TakesFront, FailsWithin}
-use Rattle.hub_notes.specs.Fronts.{KeepsFront, KeepsFronts}
-use Rattle.hub_notes.specs.Calls.{Advances, Proceeds, Appends}
-use Rattle.hub_notes.proofs.BoolLemmas.{clash}
-use Rattle.hub_notes.proofs.NoteLemmas.{outgoing_both}
-use Rattle.hub_notes.proofs.CallLemmas.{advances_then}
-use Rattle.hub_notes.proofs.FrontLemmas.{front_then}
-use Rattle.socket_core.specs.Items.{IsSent}
 use Rattle.socket_core.specs.declared.item.Item.{Item}
-use Rattle.socket_core.specs.declared.socket.Kept.TheVariants.{Failed}
-use Rattle.hub_core.specs.Changes.{PutsItem, Leaves}
 use Rattle.hub_core.proofs.SentLemmas.{sent_outgoing, failures_after, gone_by_after}
 use Rattle.hub_core.proofs.ItemLemmas.{octets_sent}
 use Rattle.hub_core.proofs.StateLemmas.{is_there, told_before}
 use Rattle.hub_core.proofs.PutLemmas.{put_advances, put_beside, put_elsewhere, put_ties, put_front_other, put_short_other, put_waits}
 use Rattle.hub_core.proofs.LeaveLemmas.{may_leave, leave_advances, leave_beside, leave_lines, leave_ties, leave_gone, leave_taken, leave_before, leave_drops, leave_front_other, leave_short_other, leave_waits, front_later}
 
-rose_once : (old new last : ℕ) → (old < new) ⊎ (new ≡ last) → (old + 1 ≤ new) ⊎ (last ≤ new)
-rose_once old new last (inl rise) = inl (omega arith)
-rose_once old new last (inr end) = inr (omega arith)
+rose_once : (old mid new last : ℕ) → (old < mid) ⊎ (mid ≡ last) → mid ≤ new → (old + 1 ≤ new) ⊎ (last ≤ new)
+rose_once old mid new last (inl rise) least = inl (omega arith)
+rose_once old mid new last (inr end) least = inr (omega arith)
 
-rose_by_one : (count old new : ℕ) → count ≡ 1 → Rose old new → RoseBy count old new
-rose_by_one count old new e rose = subst (λ (z : ℕ). RoseBy z old new) (sym e) (record {
-  none = λ (z : 1 ≡ 0). absurd (omega arith);
-  each = rose_once old new (2 ^ 64 - 1) rose;
+rose_by_one : (count old mid new : ℕ) → count ≡ 1 → CountsFault old mid → mid ≤ new → RoseBy count old new
+rose_by_one count old mid new e rose least = subst (λ (z : ℕ). RoseBy z old new) (sym e) (record {
+  least = let first = rose.0 in omega arith;
+  each = rose_once old mid new (2 ^ 64 - 1) rose.1 least;
 })
-
-same_number : (c : ℕ) → nat_eq c c ≡ true
-same_number c = grind (arith, nat_tests)
-
-other_number : (c x : ℕ) → x ≢ c → nat_eq c x ≡ false
-other_number c x ne = grind (arith, nat_tests)
 
 or_true : (b g : Bool) → g ≡ true → true ≡ (b || g)
 or_true true g e = refl
 or_true false g e = sym e
-
-or_none : (b g : Bool) → g ≡ false → b ≡ (b || g)
-or_none true g e = refl
-or_none false g e = sym e
 
 counted_before : (m k last : ℕ) → (m + k) + 1 < last → m < last
 counted_before m k last few = omega arith
@@ -85,8 +48,7 @@ module _ {c : ℕ} {item : Item} {a b d : Server} (p : PutsItem c item Failed a 
   fail_fails : FailsAfter notes a.net d.net
   fail_fails = record {
     broken = fail_broken;
-    faults = rose_by_one (number_of is_link_failure notes) a.net.faults d.net.faults (failures_after c p.offers.notes (note.gone c LinkFailed ∷ []) p.offers.own)
-        (subst (λ (z : ℕ). Rose a.net.faults z) (sym l.shuts.faults) p.failed.faults);
+    faults = rose_by_one (number_of is_link_failure notes) a.net.faults b.net.faults d.net.faults (failures_after c p.offers.notes (note.gone c LinkFailed ∷ []) p.offers.own) p.failed.faults l.shuts.faults;
   }
 
   -- the notes tell what the link took, and that the connection is gone

@@ -1,12 +1,5 @@
 -- What a note of one connection makes of a hub.
-use Rattle.std.specs.Prelude.{◌≡◌, ℕ}
-use Rattle.ws_kinds.specs.declared.note.Phase.{Phase}
-use Rattle.ws_kinds.specs.NoteValue.{NoteValue}
-use Rattle.run_meaning.specs.Tell.{tell_by}
-use Rattle.hub_lines.specs.State.{HubState, entry_at, cork_at, pending_at}
-use Rattle.hub_notes.specs.Progress.{progress_at, progress_by}
-use Rattle.hub_notes.specs.Tells.{tell_at}
-use Rattle.hub_core.specs.Changes.{ChangesHub}
+use Rattle.hub_core.proofs.Below.{◌≡◌, ℕ, Phase, NoteValue, tell_by, HubState, entry_at, cork_at, pending_at, progress_at, progress_by, tell_at, ChangesHub}
 
 -- a connection goes on to another phase, as a note of it says; what it holds stays
 pub record Enters (conn : ℕ) (this : NoteValue) (phase : Phase) (old new : HubState) : Type 0 where

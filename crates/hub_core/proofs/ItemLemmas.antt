@@ -1,17 +1,8 @@
 -- An item that is put is one of those that a server sends.
-use Rattle.std.proofs.Common.{◌≡◌, ℕ, ◌++◌, true, false, not, ◌==◌, IsTrue, length, refl, sym, ap, ◌∙◌, subst}
-use Rattle.ws_kinds.specs.declared.kind.Kind.TheVariants.{Text, Binary}
-use Rattle.wire_meaning.specs.declared.frame.Opcode.{Opcode}
-use Rattle.wire_meaning.specs.declared.frame.Opcode.TheVariants.{Continuation, Begins, Close, Ping, Pong, Reserved}
-use Rattle.wire_meaning.specs.Frame.{header, opcode_number}
+use Rattle.hub_core.proofs.Below.{◌≡◌, ℕ, ◌++◌, true, false, not, ◌==◌, IsTrue, length, refl, sym, ap, ◌∙◌, subst, Text, Binary, Opcode, Continuation, Begins, Close, Ping, Pong, Reserved, header, opcode_number, spelled, is_sent_opcode, is_droppable, octets_of, can_drop, IsSent, Reply, Spelled, Frame}
 use Rattle.wire_meaning.specs.Answer as answer
-use Rattle.wire_meaning.specs.Answer.{spelled, whole}
-use Rattle.frame_writer.specs.Header.{is_sent_opcode}
 use Rattle.hub_lines.specs.Items as lines
-use Rattle.hub_lines.specs.Items.{is_droppable}
-use Rattle.socket_core.specs.Items.{octets_of, can_drop, IsSent}
 use Rattle.socket_core.specs.declared.item.Item.{Item}
-use Rattle.socket_core.specs.declared.item.Item.TheVariants.{Reply, Spelled, Frame}
 
 pub octets_sent : (item : Item) (sent : answer.Item) → IsSent item sent → octets_of item ≡ spelled sent
 octets_sent (Reply text) sent s = sym (ap spelled s)

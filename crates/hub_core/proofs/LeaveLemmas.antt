@@ -1,61 +1,12 @@
 -- What it leaves of a hub that a connection becomes gone.
-use Rattle.std.proofs.Common.{◌≡◌, ◌≢◌, ◌<◌, ◌+◌, ◌^◌, ◌-◌, inl, ℕ, List, [], ◌∷◌, ◌++◌, Option, Some, None, Bool, true, false, cond, nat_eq, not, ◌&&◌, ◌||◌, length, refl, sym, ap, ◌∙◌, subst, append-nil, arith, ⊎_elim}
-use Rattle.std.proofs.lemmas.Bool.{cases_eq}
-use Rattle.std.proofs.lemmas.Bool.Decides.{nat_tests}
-use Rattle.ws_kinds.specs.declared.note.Left.{Left}
-use Rattle.ws_kinds.specs.declared.note.Left.TheVariants.{PeerEnd, LinkFailed, Idle, Finished}
-use Rattle.ws_kinds.specs.declared.note.Phase.{Phase}
-use Rattle.ws_kinds.specs.declared.note.Phase.TheVariants.{Head, Open, Leaving, Ending, Gone}
+use Rattle.hub_core.proofs.Below.{◌≤◌, ◌≡◌, ◌≢◌, ◌<◌, ◌+◌, ◌^◌, ◌-◌, inl, ℕ, List, [], ◌∷◌, ◌++◌, Option, Some, None, Bool, true, false, cond, nat_eq, not, ◌&&◌, ◌||◌, length, refl, sym, ap, ◌∙◌, subst, append-nil, arith, ⊎_elim, cases_eq, nat_tests, Left, PeerEnd, LinkFailed, Idle, Finished, Phase, Head, Open, Leaving, Ending, Gone, NoteValue, NetState, Item, is_gone_in, is_left, taken_of, is_dropped, ShortWhereHeld, Entry, Server, entry_at, numbered_at, ring_at, pending_at, is_gone, is_present, Held, held_at, held_octets, Stands, StandsFor, IsCounted, Others, Beside, Ties, SameElsewhere, SameLinesElsewhere, ShortRings, nothing, kept_same, taken_shut, others_shut, keeps_of, line_gone, ties_shut, AreNoted, TrafficAfter, NetAfter, RoseBy, FailsAfter, TakesFront, TakesAll, SameDrops, KeepsFront, KeepsFronts, RingsWait, items_at, unless_gone, progress_at, progress_by, progress_after_all, may_come, may_all_come, may_leave_by, due_at, topics_at, Advances, Appends, clash, or_false, same_number, other_number, told_one, IsTable, table_of, due_when_gone, tell_at, SameCounts, nothing_told, tell_by_all, topics_left, leaves_open, Leaves, Goes, Notes, LosesLink}
 use Rattle.ws_kinds.specs.NoteValue as note
-use Rattle.ws_kinds.specs.NoteValue.{NoteValue}
-use Rattle.link_trait.specs.NetState.{NetState}
-use Rattle.wire_meaning.specs.Answer.{Item}
-use Rattle.run_meaning.specs.Counts.{is_gone_in}
-use Rattle.run_meaning.specs.Notes.{is_left}
-use Rattle.hub_lines.specs.Told.{taken_of, is_dropped, ShortWhereHeld}
-use Rattle.hub_lines.specs.State.{Entry, Server, entry_at, numbered_at, ring_at, pending_at, is_gone, is_present}
-use Rattle.hub_lines.specs.Lines.{Held, held_at, held_octets, Stands, StandsFor, IsCounted}
-use Rattle.hub_lines.specs.Moves.{Others}
-use Rattle.hub_lines.specs.Calls.{Beside, Ties, SameElsewhere, SameLinesElsewhere, ShortRings, nothing}
-use Rattle.hub_lines.proofs.KeptLemmas.{kept_same}
-use Rattle.hub_lines.proofs.NetLemmas.{taken_shut}
-use Rattle.hub_lines.proofs.StepLemmas.{others_shut}
-use Rattle.hub_lines.proofs.LineLemmas.{keeps_of, line_gone}
-use Rattle.hub_lines.proofs.CallLemmas.{ties_shut}
-use Rattle.ws_kinds.specs.Watch.{AreNoted}
-use Rattle.hub_notes.specs.NetAfter.{TrafficAfter, NetAfter, RoseBy, FailsAfter}
-use Rattle.hub_lines.specs.Fronts.{TakesFront, TakesAll}
-use Rattle.hub_notes.specs.Fronts.{SameDrops, KeepsFront, KeepsFronts, RingsWait, items_at}
-use Rattle.run_meaning.specs.Orders.{unless_gone}
-use Rattle.hub_notes.specs.Progress.{progress_at, progress_by, progress_after_all, may_come, may_all_come, may_leave_by, due_at, topics_at}
-use Rattle.hub_notes.specs.Calls.{Advances, Appends}
-use Rattle.hub_notes.proofs.BoolLemmas.{clash, or_false}
-use Rattle.hub_notes.proofs.NoteLemmas.{told_one}
-use Rattle.hub_notes.specs.Table.{IsTable, table_of, due_when_gone}
-use Rattle.hub_notes.specs.Tells.{tell_at}
-use Rattle.hub_notes.specs.Quiet.{SameCounts}
-use Rattle.run_meaning.specs.Tell.{nothing_told, tell_by_all}
-use Rattle.run_meaning.specs.Lines.{topics_left, leaves_open}
-use Rattle.hub_core.specs.Changes.{Leaves, Goes}
-use Rattle.hub_core.specs.Sends.{Notes, LosesLink}
 use Rattle.hub_core.proofs.SentLemmas.{progress_with, short_still}
 use Rattle.hub_core.proofs.StateLemmas.{progress_of, is_away, is_there, change_present, change_progress, change_elsewhere, entry_kept, beside_change, lines_elsewhere, told_before, drops_same, front_still}
 use Rattle.hub_core.proofs.NoteLemmas.{counts_changed}
+use Rattle.hub_core.proofs.CallLemmas.{gone_phase as phase_away}
 
 -- ---- the note
-
-same_number : (c : ℕ) → nat_eq c c ≡ true
-same_number c = grind (arith, nat_tests)
-
-other_number : (c x : ℕ) → x ≢ c → nat_eq c x ≡ false
-other_number c x ne = grind (arith, nat_tests)
-
-phase_away : (phase : Phase) → is_gone phase ≡ true → unless_gone (Some phase) ≡ None
-phase_away Head e = clash false refl e
-phase_away Open e = clash false refl e
-phase_away Leaving e = clash false refl e
-phase_away Ending e = clash false refl e
-phase_away Gone e = refl
 
 may_gone : (c : ℕ) (left : Left) (phase : Phase) → is_gone phase ≡ false → may_leave_by (Some phase) left ≡ true → may_come (unless_gone (Some phase)) (note.gone c left) ≡ true
 may_gone c left Head e may = may
@@ -179,8 +130,8 @@ module _ {c : ℕ} {left : Left} {a b : Server} (l : Leaves c left a b) where
 
   -- ---- no write failed
 
-  same_count : (old new : ℕ) → new ≡ old → RoseBy 0 old new
-  same_count old new same = record { none = λ z. same; each = inl (omega arith) }
+  same_count : (old new : ℕ) → old ≤ new → RoseBy 0 old new
+  same_count old new least = record { least = least; each = inl (omega arith) }
 
   pub leave_fails_none : FailsAfter [] a.net b.net
   leave_fails_none = record {
@@ -323,10 +274,6 @@ module _ {c : ℕ} {left : Left} {a b : Server} (l : Leaves c left a b) where
   leave_takes_all none few items stands =
       all_later c items a.net b.net a.told b.told (leave_taken c) leave_before (leave_drops c)
       (all_at_once c items (held_at a.hub c) a.net a.told (counted_at (numbered_at a.hub c) (length (pending_at a.hub c)) (2 ^ 64 - 1) few) none stands)
-
-  -- and that stays so for those who were gone before
-  pub leave_all_later : (x : ℕ) (items : List Item) → TakesAll x items a.net a.told → TakesAll x items b.net b.told
-  leave_all_later x items all = all_later x items a.net b.net a.told b.told (leave_taken x) leave_before (leave_drops x) all
 
   -- all of it
   pub goes : is_gone (entry_at a.hub c).phase ≡ false → (ring_at a.hub c ≡ [] → held_octets (held_at a.hub c) ≡ []) → IsTable (table_of a.hub) → IsTable (table_of b.hub) → Goes c left a b

@@ -9,9 +9,5 @@ pub mod NoteLemmas
 pub mod CallLemmas
 pub mod TurnLemmas
 pub mod OrderLemmas
-pub mod ConnectionLemmas
-pub mod NumberLemmas
-pub mod IndexLemmas
-pub mod MapLemmas
-pub mod ChangeLemmas
-pub mod HeldLemmas
+pub mod Below
+pub mod All

@@ -1,34 +1,6 @@
 -- A note that says nothing of what was sent, beside a hub in which it changes one connection or none.
-use Rattle.std.proofs.Common.{◌≡◌, ◌≢◌, ◌<◌, ◌≤◌, ◌+◌, ◌⊎◌, inl, inr, ℕ, List, [], ◌∷◌, ◌++◌, Option, Bool, true, false, cond, not, ◌&&◌, ◌||◌, nat_eq, length, refl, sym, ap, ◌∙◌, subst, append-nil, arith}
-use Rattle.std.proofs.lemmas.Bool.Decides.{nat_tests}
-use Rattle.ws_kinds.specs.declared.note.Left.TheVariants.{LinkFailed}
-use Rattle.ws_kinds.specs.declared.note.Phase.{Phase}
+use Rattle.hub_core.proofs.Below.{◌≡◌, ◌≢◌, ◌<◌, ◌≤◌, ◌+◌, ◌⊎◌, inl, inr, ℕ, List, [], ◌∷◌, ◌++◌, Option, Bool, true, false, cond, not, ◌&&◌, ◌||◌, nat_eq, length, refl, sym, ap, ◌∙◌, subst, append-nil, arith, nat_tests, LinkFailed, Phase, NoteValue, IsNoted, NetState, is_of, writes, taken, number_of, is_gone_in, is_gone_by_in, Tell, tell_by, is_silent, is_dropped, taken_of, ShortWhereHeld, HubState, Entry, Server, server, is_gone, entry_at, is_present, ring_at, cork_at, pending_at, Held, held_at, KeepsLine, SameLinesElsewhere, Ties, nothing, is_dropped_more, stands_silent, fair_silent, silent_drops, line_still, held_same, short_silent, split_told, is_link_failure, Progress, progress_at, progress_by, progress_after, may_come, may_all_come, TellsBy, tell_at, CountsBeside, SameCounts, counts_at, count_of, NetAfter, FailsAfter, RoseBy, KeepsFront, SameDrops, items_at, Advances, Appends, by_cases, clash, and_true, or_false, zero_more, plus_none, told_one, same_counts, ChangesHub, after_own, after_other, falsely, truly}
 use Rattle.ws_kinds.specs.NoteValue as note
-use Rattle.ws_kinds.specs.NoteValue.{NoteValue}
-use Rattle.ws_kinds.specs.Watch.{IsNoted}
-use Rattle.link_trait.specs.NetState.{NetState}
-use Rattle.run_meaning.specs.Notes.{is_of}
-use Rattle.run_meaning.specs.Counts.{writes, taken, number_of, is_gone_in, is_gone_by_in}
-use Rattle.run_meaning.specs.Tell.{Tell, tell_by}
-use Rattle.hub_lines.specs.Told.{is_silent, is_dropped, taken_of, ShortWhereHeld}
-use Rattle.hub_lines.specs.State.{HubState, Entry, Server, server, is_gone, entry_at, is_present, ring_at, cork_at, pending_at}
-use Rattle.hub_lines.specs.Lines.{Held, held_at}
-use Rattle.hub_lines.specs.Calls.{KeepsLine, SameLinesElsewhere, Ties, nothing}
-use Rattle.hub_lines.proofs.KeptLemmas.{is_dropped_more}
-use Rattle.hub_lines.proofs.StepLemmas.{stands_silent, fair_silent, silent_drops}
-use Rattle.hub_lines.proofs.LineLemmas.{line_still}
-use Rattle.hub_lines.proofs.CallLemmas.{short_silent}
-use Rattle.hub_lines.proofs.NetLemmas.{split_told}
-use Rattle.run_meaning.specs.Performs.{is_link_failure}
-use Rattle.hub_notes.specs.Progress.{Progress, progress_at, progress_by, progress_after, may_come, may_all_come}
-use Rattle.hub_notes.specs.Tells.{TellsBy, tell_at}
-use Rattle.hub_notes.specs.Quiet.{CountsBeside, SameCounts, counts_at, count_of}
-use Rattle.hub_notes.specs.NetAfter.{NetAfter, FailsAfter, RoseBy}
-use Rattle.hub_notes.specs.Fronts.{KeepsFront, SameDrops, items_at}
-use Rattle.hub_notes.specs.Calls.{Advances, Appends}
-use Rattle.hub_notes.proofs.BoolLemmas.{by_cases, clash, and_true, or_false}
-use Rattle.hub_notes.proofs.NoteLemmas.{told_one, same_counts}
-use Rattle.hub_core.specs.Changes.{ChangesHub}
 use Rattle.hub_core.proofs.HubSteps.{Enters}
 use Rattle.hub_core.proofs.StateLemmas.{change_present, change_progress, change_named, lines_elsewhere}
 
@@ -60,9 +32,6 @@ none_failed : (n : NoteValue) → is_inner n ≡ true → number_of is_link_fail
 none_failed (note.gone d left) e = clash false refl e
 none_failed _ e = refl
 
-plus_none : (n m : ℕ) → m ≡ 0 → n ≡ n + m
-plus_none n m e = omega arith
-
 pub net_noted : (n : NoteValue) (net : NetState) → is_inner n ≡ true → NetAfter (n ∷ []) net net
 net_noted n net e = record {
   net = record { tells = refl; schedule = refl };
@@ -82,7 +51,7 @@ net_noted n net e = record {
 }
 
 rose_none : (n m : ℕ) → m ≡ 0 → RoseBy m n n
-rose_none n m e = record { none = λ z. refl; each = inl (omega arith) }
+rose_none n m e = record { least = omega arith; each = inl (omega arith) }
 
 pub fails_noted : (n : NoteValue) (net : NetState) → is_inner n ≡ true → FailsAfter (n ∷ []) net net
 fails_noted n net e = record {
@@ -91,12 +60,6 @@ fails_noted n net e = record {
 }
 
 -- ---- what it makes of the connections
-
-after_own : (c : ℕ) (n : NoteValue) (p : Progress) → is_of c n ≡ true → progress_after c n p ≡ progress_by n p
-after_own c n p e = ap (λ (z : Bool). cond z (progress_by n p) p) e
-
-after_other : (c : ℕ) (n : NoteValue) (p : Progress) → is_of c n ≡ false → progress_after c n p ≡ p
-after_other c n p e = ap (λ (z : Bool). cond z (progress_by n p) p) e
 
 may_own : (c : ℕ) (n : NoteValue) (p : Progress) → (is_of c n ≡ true → may_come p.phase n ≡ true) → may_all_come c (n ∷ []) p ≡ true
 may_own c n p h = by_cases (is_of c n)
@@ -183,9 +146,6 @@ pub record Still (a b : HubState) (d : ℕ) : Type 0 where
 pub still_same : (a : HubState) (d : ℕ) → Still a a d
 still_same a d = record { held = refl; gone = refl }
 
-held_same : (a b : HubState) (d : ℕ) → entry_at b d ≡ entry_at a d → cork_at b d ≡ cork_at a d → pending_at b d ≡ pending_at a d → held_at b d ≡ held_at a d
-held_same a b d e k p = cc
-
 pub still_of : (c : ℕ) (a b : HubState) → ChangesHub c a b → (d : ℕ) → d ≢ c → Still a b d
 still_of c a b change d ne = record { held = held_same a b d (change.table.entries d ne) (change.cork d ne) (change.pending d ne); gone = ap (λ (z : Entry). is_gone z.phase) (change.table.entries d ne) }
 
@@ -202,17 +162,6 @@ line_noted a b net t t' n d config told silent still = line_still d (server a ne
     (λ there. ap not (sym still.gone) ∙ there) still.held (ap (λ z. z.limit) config)
     (λ items s. stands_silent d (held_at a d) (taken_of net d) (taken_of net d) t t' n items refl told silent s)
     (λ items f. fair_silent d a.config.limit (held_at a d) (taken_of net d) (taken_of net d) t t' n items refl told silent f)
-
-zero_more : (n : ℕ) → n ≡ n + 0
-zero_more n = omega arith
-
-pub falsely : (b : Bool) → not b ≡ true → b ≡ false
-falsely true e = sym e
-falsely false e = refl
-
-pub truly : (b : Bool) → not b ≡ false → b ≡ true
-truly true e = refl
-truly false e = sym e
 
 pub items_still : (a b : HubState) (d : ℕ) → Still a b d → items_at b d ≡ items_at a d + 0
 items_still a b d still = ap (λ (z : Held). z.numbered + length z.pending) still.held ∙ zero_more (items_at a d)

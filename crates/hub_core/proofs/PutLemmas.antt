@@ -1,35 +1,8 @@
 -- What putting an item leaves of a hub, whether or not the connection's link fails.
-use Rattle.std.proofs.Common.{◌≡◌, ◌≢◌, ◌<◌, ◌+◌, ◌^◌, ◌-◌, inl, ℕ, List, [], ◌∷◌, ◌++◌, Bool, true, false, min, not, ◌&&◌, ◌||◌, length, refl, sym, ap, ◌∙◌, subst, append-nil, arith, ⊎_elim}
-use Rattle.std.proofs.lemmas.Bool.{cases_eq}
-use Rattle.std.proofs.lemmas.Bool.Decides.{nat_tests}
-use Rattle.ws_kinds.specs.declared.note.Left.TheVariants.{LinkFailed}
-use Rattle.ws_kinds.specs.NoteValue.{NoteValue}
+use Rattle.hub_core.proofs.Below.{◌≤◌, ◌≡◌, ◌≢◌, ◌<◌, ◌+◌, ◌^◌, ◌-◌, inl, ℕ, List, [], ◌∷◌, ◌++◌, Bool, true, false, min, not, ◌&&◌, ◌||◌, length, refl, sym, ap, ◌∙◌, subst, append-nil, arith, ⊎_elim, cases_eq, nat_tests, LinkFailed, NoteValue, spelled, writes, taken, number_of, is_gone_in, is_gone_by_in, nothing_told, tell_by_all, ShortWhereHeld, Entry, Server, entry_at, numbered_at, pending_at, is_gone, is_present, Moves, buffered_at, KeepsLine, Beside, Ties, SameLinesElsewhere, ShortRings, only, line_put, keeps_only, only_here, only_other, ties_same, is_link_failure, TrafficAfter, NetAfter, RoseBy, FailsAfter, KeepsFront, KeepsFronts, RingsWait, progress_at, tell_at, SameCounts, count_of, Advances, Proceeds, Appends, clash, can_drop, IsSent, TellsRing, TellsFailure, LeavesLinkWhole, Kept, Clear, Backlog, Dropped, Failed, TellsPut, PutsItem, tell_after}
 use Rattle.wire_meaning.specs.Answer as answer
-use Rattle.wire_meaning.specs.Answer.{spelled}
-use Rattle.run_meaning.specs.Counts.{writes, taken, number_of, is_gone_in, is_gone_by_in}
-use Rattle.run_meaning.specs.Tell.{nothing_told, tell_by_all}
-use Rattle.hub_lines.specs.Told.{ShortWhereHeld}
 use Rattle.hub_lines.specs.Items as lines
-use Rattle.hub_lines.specs.State.{Entry, Server, entry_at, numbered_at, pending_at, is_gone, is_present}
-use Rattle.hub_lines.specs.Moves.{Moves, buffered_at}
-use Rattle.hub_lines.specs.Calls.{KeepsLine, Beside, Ties, SameLinesElsewhere, ShortRings, only}
-use Rattle.hub_lines.proofs.LineLemmas.{line_put, keeps_only, only_here, only_other}
-use Rattle.hub_lines.proofs.CallLemmas.{ties_same}
-use Rattle.run_meaning.specs.Performs.{is_link_failure}
-use Rattle.hub_notes.specs.NetAfter.{TrafficAfter, NetAfter, RoseBy, FailsAfter}
-use Rattle.hub_notes.specs.Fronts.{KeepsFront, KeepsFronts, RingsWait}
-use Rattle.hub_notes.specs.Progress.{progress_at}
-use Rattle.hub_notes.specs.Tells.{tell_at}
-use Rattle.hub_notes.specs.Quiet.{SameCounts, count_of}
-use Rattle.hub_notes.specs.Calls.{Advances, Proceeds, Appends}
-use Rattle.hub_notes.proofs.BoolLemmas.{clash}
-use Rattle.socket_core.specs.Items.{can_drop, IsSent}
-use Rattle.socket_core.specs.Puts.{TellsRing, TellsFailure, LeavesLinkWhole}
 use Rattle.socket_core.specs.declared.item.Item.{Item}
-use Rattle.socket_core.specs.declared.socket.Kept.{Kept}
-use Rattle.socket_core.specs.declared.socket.Kept.TheVariants.{Clear, Backlog, Dropped, Failed}
-use Rattle.hub_core.specs.Answers.{TellsPut}
-use Rattle.hub_core.specs.Changes.{PutsItem, tell_after}
 use Rattle.hub_core.proofs.SentLemmas.{sent_outgoing, sent_failures, sent_gone, sent_gone_by, sent_silent, sent_wrote, sent_taken, sent_progress, sent_may, sent_tells, sent_untold, short_still}
 use Rattle.hub_core.proofs.ItemLemmas.{octets_sent, drops_sent}
 use Rattle.hub_core.proofs.StateLemmas.{phase_there, phase_twice, is_there, progress_same, present_same, change_phase, change_progress, beside_change, lines_elsewhere, front_still, told_before}
@@ -179,8 +152,8 @@ module _ {c : ℕ} {item : Item} {kept : Kept} {a b : Server} (p : PutsItem c it
       (λ (ne : x ≢ c). (p.net.told t).elsewhere.broken x ne)
       (cases_eq x c)
 
-  none_rose : (count old new : ℕ) → count ≡ 0 → new ≡ old → RoseBy count old new
-  none_rose count old new e same = record { none = λ z. same; each = inl (omega arith) }
+  none_rose : (count old new : ℕ) → count ≡ 0 → old ≤ new → RoseBy count old new
+  none_rose count old new e least = record { least = least; each = inl (omega arith) }
 
   put_fails : kept ≢ Failed → FailsAfter p.offers.notes a.net b.net
   put_fails ok = let whole = whole_of kept ok p.failed in record {

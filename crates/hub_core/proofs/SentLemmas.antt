@@ -1,38 +1,9 @@
 -- Notes of what became of one connection's octets: they leave each connection as far as it is, and say nothing of others.
-use Rattle.std.proofs.Common.{zero, length, ◌≡◌, ◌≢◌, ℕ, List, [], ◌∷◌, ◌++◌, Option, Some, None, Bool, true, false, cond, suc, nat_eq, ◌&&◌, ◌||◌, refl, sym, ap, ◌∙◌, subst, arith, ⊎_elim}
-use Rattle.std.proofs.lemmas.Bool.{cases_eq}
-use Rattle.std.proofs.lemmas.Bool.Decides.{nat_tests}
-use Rattle.std.specs.List.{list_all, list_any}
-use Rattle.ws_kinds.specs.declared.note.Left.{Left}
-use Rattle.ws_kinds.specs.declared.note.Phase.{Phase}
-use Rattle.ws_kinds.specs.declared.note.Phase.TheVariants.{Head, Open, Leaving, Ending, Gone}
+use Rattle.hub_core.proofs.Below.{zero, length, ◌≡◌, ◌≢◌, ℕ, List, [], ◌∷◌, ◌++◌, Option, Some, None, Bool, true, false, cond, suc, nat_eq, ◌&&◌, ◌||◌, refl, sym, ap, ◌∙◌, subst, arith, ⊎_elim, cases_eq, one_more, nat_tests, list_all, list_any, Left, Phase, Head, Open, Leaving, Ending, Gone, NoteValue, gather, total, number_of, took_by, taken_by, dropped_by, writes, taken, dropped_of, is_gone_in, is_gone_by_in, Tell, one_dropped, tell_by, tell_by_all, drops_in, Kept, Clear, Backlog, Dropped, Failed, tell_after, is_of, is_gone_by, is_sending, moved, leaves_open, topics_left, cause_of, is_dropped, drops, short_from, short_after, fell_short, is_silent, ShortWhereHeld, silent_drops, silent_short, AreNoted, is_outgoing, is_link_failure, Progress, progress_by, progress_after, progress_after_all, may_come, may_all_come, unless_gone, clash, and_left, and_right, all_as, none_of}
 use Rattle.ws_kinds.specs.NoteValue as note
-use Rattle.ws_kinds.specs.NoteValue.{NoteValue}
-use Rattle.run_meaning.specs.Counts.{gather, total, number_of, took_by, taken_by, dropped_by, writes, taken, drops as dropped_of, is_gone_in, is_gone_by_in}
-use Rattle.run_meaning.specs.Tell.{Tell, one_dropped, tell_by, tell_by_all}
-use Rattle.socket_core.specs.Puts.{drops_in}
-use Rattle.socket_core.specs.declared.socket.Kept.{Kept}
-use Rattle.socket_core.specs.declared.socket.Kept.TheVariants.{Clear, Backlog, Dropped, Failed}
-use Rattle.hub_core.specs.Changes.{tell_after}
-use Rattle.run_meaning.specs.Notes.{is_of, is_gone, is_gone_by, is_sending}
-use Rattle.run_meaning.specs.Lines.{moved, leaves_open, topics_left, cause_of}
-use Rattle.hub_lines.specs.Told.{is_dropped, drops, short_from, short_after, fell_short, is_silent, ShortWhereHeld}
-use Rattle.hub_lines.proofs.StepLemmas.{silent_drops, silent_short}
-use Rattle.ws_kinds.specs.Watch.{AreNoted}
-use Rattle.run_meaning.specs.Performs.{is_outgoing, is_link_failure}
-use Rattle.hub_notes.specs.Progress.{Progress, progress_by, progress_after, progress_after_all, may_come, may_all_come}
-use Rattle.run_meaning.specs.Orders.{unless_gone}
-use Rattle.hub_notes.proofs.BoolLemmas.{clash, and_left, and_right}
+use Rattle.run_meaning.specs.Notes.{is_gone}
 
 -- ---- what holds of each note
-
-all_as : (p q : NoteValue → Bool) → ((n : NoteValue) → p n ≡ true → q n ≡ true) → (ns : List NoteValue) → list_all p ns ≡ true → list_all q ns ≡ true
-all_as p q h [] e = refl
-all_as p q h (n ∷ ns) e = ap (λ (z : Bool). z && list_all q ns) (h n (and_left (p n) (list_all p ns) e)) ∙ all_as p q h ns (and_right (p n) (list_all p ns) e)
-
-none_of : (p q : NoteValue → Bool) → ((n : NoteValue) → p n ≡ true → q n ≡ false) → (ns : List NoteValue) → list_all p ns ≡ true → list_any q ns ≡ false
-none_of p q h [] e = refl
-none_of p q h (n ∷ ns) e = ap (λ (z : Bool). z || list_any q ns) (h n (and_left (p n) (list_all p ns) e)) ∙ none_of p q h ns (and_right (p n) (list_all p ns) e)
 
 zero_of : (p q : NoteValue → Bool) → ((n : NoteValue) → p n ≡ true → q n ≡ false) → (ns : List NoteValue) → list_all p ns ≡ true → number_of q ns ≡ 0
 zero_of p q h [] e = refl
@@ -190,10 +161,6 @@ may_here c n p phase there e = if_own (is_of c n) (may_come p.phase n) (ap (λ (
 
 may_there : (c x : ℕ) (n : NoteValue) (p : Progress) → x ≢ c → is_sending c n ≡ true → cond (is_of x n) (may_come p.phase n) true ≡ true
 may_there c x n p ne e = if_other (is_of x n) (may_come p.phase n) (one_other c x ne n e)
-
-one_more : (a b : Bool) → a ≡ true → b ≡ true → (a && b) ≡ true
-one_more true b e h = h
-one_more false b e h = e
 
 -- each may come, as long as the connection is there
 pub sent_may : (c x : ℕ) (ns : List NoteValue) (p : Progress) → (x ≡ c → (phase : Phase) × (p.phase ≡ Some phase)) → list_all (is_sending c) ns ≡ true → unless_gone p.phase ≡ p.phase → may_all_come x ns p ≡ true

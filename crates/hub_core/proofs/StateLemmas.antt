@@ -1,24 +1,5 @@
 -- Hubs of which one connection changes, with what the net and the watch tell of the others.
-use Rattle.std.proofs.Common.{◌≡◌, ◌≢◌, ◌≤◌, ◌+◌, ℕ, List, [], ◌∷◌, ◌++◌, Option, Some, None, Bool, true, false, cond, nat_eq, bytes_eq, not, is_some, ◌&&◌, ◌||◌, length, refl, sym, ap, ◌∙◌, arith}
-use Rattle.std.specs.List.{list_all, list_any}
-use Rattle.ws_kinds.specs.declared.note.Phase.{Phase}
-use Rattle.ws_kinds.specs.declared.note.Phase.TheVariants.{Head, Open, Leaving, Ending, Gone}
-use Rattle.ws_kinds.specs.NoteValue.{NoteValue}
-use Rattle.link_trait.specs.NetState.{NetState}
-use Rattle.hub_lines.specs.Told.{taken_of, is_dropped, is_silent}
-use Rattle.hub_lines.specs.State.{HubState, Entry, Server, entry_at, entry_of, has_entry, is_gone, is_present, phase_at, ring_at, cork_at, pending_at, has_pair}
-use Rattle.hub_lines.specs.Moves.{Others}
-use Rattle.hub_lines.specs.Calls.{Beside, SameElsewhere, SameLinesElsewhere}
-use Rattle.hub_lines.proofs.EntryLemmas.{present_entry}
-use Rattle.hub_lines.proofs.LineLemmas.{beside_of}
-use Rattle.ws_kinds.specs.Watch.{AreNoted}
-use Rattle.hub_notes.specs.Fronts.{SameDrops, KeepsFront, items_at}
-use Rattle.hub_notes.specs.Progress.{Progress, progress_at, due_of, due_at, topics_of, topics_at}
-use Rattle.run_meaning.specs.Orders.{unless_gone}
-use Rattle.hub_notes.specs.Table.{TableState, IsTable, ChangesOne}
-use Rattle.hub_notes.proofs.BoolLemmas.{by_cases, clash}
-use Rattle.hub_core.specs.Changes.{ChangesHub}
-use Rattle.hub_core.specs.State.{hub_of}
+use Rattle.hub_core.proofs.Below.{◌≡◌, ◌≢◌, ◌≤◌, ◌+◌, ℕ, List, [], ◌∷◌, ◌++◌, Option, Some, None, Bool, true, false, cond, nat_eq, bytes_eq, not, is_some, ◌&&◌, ◌||◌, length, refl, sym, ap, ◌∙◌, arith, list_all, list_any, Phase, Head, Open, Leaving, Ending, Gone, NoteValue, NetState, taken_of, is_dropped, is_silent, HubState, Entry, Server, entry_at, entry_of, has_entry, is_gone, is_present, phase_at, ring_at, cork_at, pending_at, has_pair, Others, Beside, SameElsewhere, SameLinesElsewhere, present_entry, beside_of, AreNoted, SameDrops, KeepsFront, items_at, Progress, progress_at, due_of, due_at, topics_of, topics_at, unless_gone, TableState, IsTable, ChangesOne, by_cases, clash, no_more, ChangesHub, hub_of, same_told}
 use Rattle.hub_core.proofs.SentLemmas.{silent_dropped, split_notes}
 
 -- ---- phases
@@ -94,9 +75,6 @@ pub plain_change : (c : ℕ) (a b : TableState) → ChangesOne c a b → Changes
 plain_change c a b change = record { table = change; cork = λ x ne. refl; pending = λ x ne. refl; topics = λ x ne. refl; tells = λ x ne. refl }
 
 module _ {c : ℕ} {a b : HubState} (change : ChangesHub c a b) where
-  pub change_entry : (x : ℕ) → x ≢ c → entry_at b x ≡ entry_at a x
-  change_entry x ne = change.table.entries x ne
-
   pub change_phase : (x : ℕ) → x ≢ c → (entry_at b x).phase ≡ (entry_at a x).phase
   change_phase x ne = ap (λ (z : Entry). z.phase) (change.table.entries x ne)
 
@@ -146,10 +124,6 @@ lines_elsewhere c a b change tells taken = record {
 
 -- ---- fronts
 
-same_told : (t t' : Bool) (a b : List ℕ) → t' ≡ t → (t ≡ true → b ≡ a) → cond t' (Some b) None ≡ cond t (Some a) None
-same_told true t' a b e h = ap (λ (z : Bool). cond z (Some b) None) e ∙ ap Some (h refl)
-same_told false t' a b e h = ap (λ (z : Bool). cond z (Some b) None) e
-
 pub taken_same : (x : ℕ) (n0 n1 : NetState) → n1.tells ≡ n0.tells → (n0.tells ≡ true → n1.taken x ≡ n0.taken x) → taken_of n1 x ≡ taken_of n0 x
 taken_same x n0 n1 tells taken = same_told n0.tells n1.tells (n0.taken x) (n1.taken x) tells taken
 
@@ -164,9 +138,6 @@ drops_same x t0 t1 ns told silent old new eo en i =
     let q = split_notes t0 t1 ns new told en in
     let before : q.0 ≡ old = same_list old q.0 (sym eo ∙ q.1) in
     ap (λ (z : List NoteValue). is_dropped x z i) q.2 ∙ silent_dropped x i q.0 ns silent ∙ ap (λ (z : List NoteValue). is_dropped x z i) before
-
-no_more : (m : ℕ) → m ≡ m + 0
-no_more m = omega arith
 
 -- a connection that does not change, and of which nothing is told
 pub front_still : (c x : ℕ) (a b : Server) (ns : List NoteValue) → x ≢ c → ChangesHub c a.hub b.hub → b.net.tells ≡ a.net.tells → (a.net.tells ≡ true → b.net.taken x ≡ a.net.taken x) → AreNoted a.told ns b.told

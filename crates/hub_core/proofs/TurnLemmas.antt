@@ -1,39 +1,9 @@
 -- Connections that are finished, one after another, as a turn ends.
-use Rattle.std.proofs.Common.{length, inl, ◌≡◌, ◌≢◌, ◌<◌, ◌≤◌, ◌+◌, ◌-◌, ◌^◌, ℕ, List, [], ◌∷◌, ◌++◌, Option, Some, None, Bool, true, false, cond, not, ◌||◌, nat_eq, nat_lt, refl, sym, ap, ◌∙◌, subst, append-nil, arith}
-use Rattle.std.proofs.lemmas.Bool.Decides.{nat_tests}
-use Rattle.ws_kinds.specs.declared.note.Left.TheVariants.{Finished}
-use Rattle.ws_kinds.specs.declared.note.Phase.{Phase}
-use Rattle.ws_kinds.specs.declared.note.Phase.TheVariants.{Ending}
+use Rattle.hub_core.proofs.Below.{length, inl, ◌≡◌, ◌≢◌, ◌<◌, ◌≤◌, ◌+◌, ◌-◌, ◌^◌, ℕ, List, [], ◌∷◌, ◌++◌, Option, Some, None, Bool, true, false, cond, not, ◌||◌, nat_eq, nat_lt, refl, sym, ap, ◌∙◌, subst, append-nil, arith, nat_tests, Finished, Phase, Ending, NoteValue, IsNoted, NetState, Item, has_number, joined, HubState, Entry, TellingValue, Server, server, is_gone, has_entry, is_present, entry_at, ring_at, cork_at, pending_at, StandsFor, nothing, present_entry, FailsAfter, TakesAll, items_at, Advances, Appends, by_cases, clash, or_false, or_assoc, same, fails_then, fails_same, advances_then, advances_same, appends_before_nothing, appends_same, IsTable, table_of, tell_of, tell_at, held_in, may_leave_by, nothing_told, at_turn, is_turn, list_any, Goes, Rise, finishes, FinishesOne, FinishesIfEmpty, EndsTurn, or_true, no}
 use Rattle.ws_kinds.specs.NoteValue as note
-use Rattle.ws_kinds.specs.NoteValue.{NoteValue}
-use Rattle.ws_kinds.specs.Watch.{IsNoted}
-use Rattle.link_trait.specs.NetState.{NetState}
-use Rattle.wire_meaning.specs.Answer.{Item}
-use Rattle.run_meaning.specs.Counts.{has_number}
-use Rattle.hub_lines.specs.Told.{taken_of, is_dropped}
-use Rattle.hub_lines.specs.Items.{joined}
-use Rattle.hub_lines.specs.State.{HubState, Entry, TellingValue, Server, server, is_gone, has_entry, is_present, phase_at, entry_at, ring_at, cork_at, pending_at}
-use Rattle.hub_lines.specs.Lines.{StandsFor}
-use Rattle.hub_lines.specs.Calls.{nothing}
-use Rattle.hub_lines.proofs.EntryLemmas.{present_entry}
-use Rattle.hub_lines.proofs.KeptLemmas.{kept_same}
-use Rattle.hub_notes.specs.NetAfter.{FailsAfter}
-use Rattle.hub_lines.specs.Fronts.{TakesAll}
-use Rattle.hub_notes.specs.Fronts.{SameDrops, items_at}
-use Rattle.hub_notes.specs.Calls.{Advances, Appends}
-use Rattle.hub_notes.proofs.BoolLemmas.{by_cases, clash}
-use Rattle.hub_notes.proofs.NetLemmas.{fails_then, fails_same}
-use Rattle.hub_notes.proofs.CallLemmas.{advances_then, advances_same}
-use Rattle.hub_notes.proofs.FrontLemmas.{appends_before_nothing, appends_same}
-use Rattle.hub_notes.specs.Table.{IsTable, table_of}
-use Rattle.hub_notes.specs.Tells.{tell_of, tell_at, held_in}
-use Rattle.hub_notes.specs.Progress.{may_leave_by}
-use Rattle.run_meaning.specs.Tell.{nothing_told, at_turn}
-use Rattle.run_meaning.specs.Notes.{is_turn}
-use Rattle.std.specs.List.{list_any}
-use Rattle.hub_core.specs.Changes.{Goes}
-use Rattle.hub_notes.specs.Turns.{Rise, finishes, FinishesOne, FinishesIfEmpty, EndsTurn}
 use Rattle.hub_core.proofs.NoteLemmas.{NotesOne, advances_noted, fails_noted, appends_noted, same_or_not}
+use Rattle.hub_core.proofs.CallLemmas.{phase_known as phase_of}
+use Rattle.hub_core.proofs.LeaveLemmas.{all_later}
 
 -- these were finished, in order, the last one with a number up to `after`; who is still ending up to there holds octets
 pub record Finishing (after : ℕ) (old new : Server) : Type 0 where
@@ -49,24 +19,6 @@ pub record Finishing (after : ℕ) (old new : Server) : Type 0 where
   pub below : (c : ℕ) → c ≤ after → (entry_at new.hub c).phase ≡ Ending → ring_at new.hub c ≢ []
 
 -- ---- lists of numbers
-
-no : {A : Type 0} → false ≡ true → A
-no e = clash false refl e
-
-or_false : (b : Bool) → b ≡ (b || false)
-or_false true = refl
-or_false false = refl
-
-or_assoc : (a b d : Bool) → (a || (b || d)) ≡ ((a || b) || d)
-or_assoc true b d = refl
-or_assoc false b d = refl
-
-same : (n : ℕ) → nat_eq n n ≡ true
-same n = grind (arith, nat_tests)
-
-or_true : (b : Bool) → (b || true) ≡ true
-or_true true = refl
-or_true false = refl
 
 has_more : (c d : ℕ) (ns : List ℕ) → has_number c (ns ++ d ∷ []) ≡ (has_number c ns || nat_eq c d)
 has_more c d [] = sym (or_false (nat_eq c d))
@@ -113,14 +65,6 @@ rise_more least c [] above all r = (above, tt {0})
 rise_more least c (n ∷ ns) above all r = (r.0, rise_more n c ns (all n (here n (has_number n ns))) (λ d e. all d (there d n ns e)) r.1)
 
 -- ---- what was taken of one that is finished
-
-all_later : (c : ℕ) (items : List Item) (n n' : NetState) (t t' : Option (List NoteValue)) → taken_of n' c ≡ taken_of n c
-    → ((notes : List NoteValue) → t' ≡ Some notes → (earlier : List NoteValue) × (t ≡ Some earlier)) → SameDrops c t t' → TakesAll c items n t → TakesAll c items n' t'
-all_later c items n n' t t' taken told drops x = record {
-  where_told = λ octets eo notes en.
-      let q = told notes en in
-      kept_same (is_dropped c q.0) (is_dropped c notes) 0 items (λ j low high. drops q.0 notes q.1 en j) ∙ x.where_told octets (sym taken ∙ eo) q.0 q.1;
-}
 
 -- ---- one more
 
@@ -184,13 +128,6 @@ finishing_skip after c old mid f above none holds = record {
 
 at_any : {A : Type 0} (after c : ℕ) → (c ≤ after → A) → (after < c → A) → A
 at_any after c low high = by_cases (nat_lt after c) (λ e. high (grind (arith, nat_tests))) (λ e. low (grind (arith, nat_tests)))
-
-phase_in : (has : Bool) (at phase : Phase) → cond has (Some at) None ≡ Some phase → at ≡ phase
-phase_in true at phase e = let h : at ≡ phase = cc in h
-phase_in false at phase e = cc
-
-phase_of : (h : HubState) (c : ℕ) (phase : Phase) → phase_at h c ≡ Some phase → (entry_at h c).phase ≡ phase
-phase_of h c phase e = phase_in (has_entry h.entries c) (entry_at h c).phase phase e
 
 empty_or_not : {A : Type 0} (xs : List ℕ) → (xs ≡ [] → A) → (xs ≢ [] → A) → A
 empty_or_not [] empty some = empty refl

@@ -4,7 +4,4 @@ pub mod At
 pub mod Changes
 pub mod Puts
 pub mod Sends
-pub mod Connection
-pub mod Parting
-pub mod ConnectionMap
-pub mod NumberSet
+pub mod All

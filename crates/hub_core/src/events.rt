@@ -17,6 +17,7 @@ ghost use Rattle.hub_core.specs.Sends.{GivesOctets, Notes, LosesLink, Sends};
 use crate::Hub;
 use link_trait::{Net, Outside};
 use socket_core::Item;
+use wire_meaning::{Opcode, opcode_number};
 use ws_kinds::{Conn, Left, Note, Phase, Watch};
 
 impl Hub {
@@ -79,7 +80,7 @@ impl Hub {
         ensures { Sends conn.0 (note.ping_got conn.0 body.now ∷ []) (only conn.0 (whole Pong body.now)) (at N.Net W.Watch self.old out.old) (at N.Net W.Watch self.new out.new) }
     {
         out.watch.note(&Note::PingGot { conn, body });
-        self.put(out, conn, Item::Frame(10, body));
+        self.put(out, conn, Item::Frame(opcode_number(Opcode::Pong), body));
     }
 
     /// A pong was read of an open connection (RFC 6455, section 5.5.3).

@@ -10,14 +10,13 @@ ghost use Rattle.hub_lines.specs.Calls.{Ties, Settled, nothing};
 ghost use Rattle.ws_kinds.specs.NoteValue as note;
 ghost use Rattle.hub_notes.specs.Quiet.{CountsBy};
 ghost use Rattle.hub_notes.specs.Calls.{Appends};
-ghost use Rattle.hub_core.specs.Parting.{parting_value};
+ghost use Rattle.hub_table.specs.Parting.{parting_value};
 ghost use Rattle.hub_core.specs.At.{at};
 ghost use Rattle.hub_notes.specs.Table.{IsTable, TakesDue, table_of};
 ghost use Rattle.hub_notes.specs.Answers.{Arrives};
 
-use crate::connections::Connections;
-use crate::parting::Parting;
 use hub_notes::Arrival;
+use hub_table::{Connections, Parting};
 use link_trait::{Net, Outside};
 use std::alloc::{AllocError, Global};
 use std::marker::Model;

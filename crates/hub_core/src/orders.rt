@@ -1,10 +1,7 @@
 //! The orders of a handler.
 
 ghost use Rattle.std.specs.Prelude.{◌≡◌};
-ghost use Rattle.std.specs.Str.{is_utf8};
 ghost use Rattle.ws_kinds.specs.OrderValue.{order_value, order_values, send};
-ghost use Rattle.wire_meaning.specs.declared.frame.Opcode.TheVariants.{Begins};
-ghost use Rattle.wire_meaning.specs.Frame.{opcode_number};
 ghost use Rattle.run_meaning.specs.Server.{every_topic};
 ghost use Rattle.run_meaning.specs.Orders.{why_send};
 ghost use Rattle.hub_lines.specs.State.{phase_at};
@@ -17,29 +14,8 @@ ghost use Rattle.hub_core.specs.Sends.{SendsMessage};
 use crate::Hub;
 use link_trait::{Net, Outside};
 use socket_core::{Item, Kept};
-use std::str;
+use wire_meaning::{Opcode, is_utf8, opcode_number};
 use ws_kinds::{Conn, Kind, Note, Order, Orders, Phase, Watch, Why};
-
-/// Whether octets are UTF-8, as a text has to be (RFC 6455, section 5.6).
-#[tactic(auto, using(wire_meaning::proofs::TextLemmas::utf8_tests))]
-fn is_text(octets: &[u8]) -> bool
-    ensures { result ≡ is_utf8 octets.now }
-{
-    match str::from_utf8(octets) {
-        Ok(_) => true,
-        Err(_) => false,
-    }
-}
-
-/// The opcode of a message's frame, by its number (RFC 6455, section 5.2).
-fn opcode_of(kind: Kind) -> u8
-    ensures { result ≡ opcode_number (Begins kind) }
-{
-    match kind {
-        Kind::Text => 1,
-        Kind::Binary => 2,
-    }
-}
 
 impl Hub {
     /// Sends a message to an open connection, as one frame (RFC 6455, section 5.6). `Ok` is what became of the frame, and
@@ -61,7 +37,11 @@ impl Hub {
         let _ = &self.table;
         match self.refusal(to, kind, body) {
             Some(why) => Err(why),
-            None => Ok(self.put(out, to, Item::Frame(opcode_of(kind), body))),
+            None => Ok(self.put(
+                out,
+                to,
+                Item::Frame(opcode_number(Opcode::Begins(kind)), body),
+            )),
         }
     }
 
@@ -139,7 +119,7 @@ impl Hub {
         if body.len() > self.table.max_message() as usize {
             return Some(Why::TooBig);
         }
-        if kind == Kind::Text && !is_text(body) {
+        if kind == Kind::Text && !is_utf8(body) {
             return Some(Why::BadText);
         }
         None

@@ -14,6 +14,7 @@ ghost use Rattle.hub_core.specs.Puts.{MayPut, Puts};
 use crate::Hub;
 use link_trait::{Net, Outside};
 use socket_core::{Item, Kept};
+use wire_meaning::{Opcode, close_body, opcode_number};
 use ws_kinds::{Conn, Left, Note, Phase, Watch};
 
 impl Hub {
@@ -60,11 +61,8 @@ impl Hub {
         requires ties { Ties (at N.Net W.Watch self.old out.old) }
         ensures { Sends conn.0 [] (only conn.0 (close_item code)) (at N.Net W.Watch self.old out.old) (at N.Net W.Watch self.new out.new) }
     {
-        if code == 1005 {
-            self.put(out, conn, Item::Frame(8, &[]));
-            return;
-        }
-        self.put(out, conn, Item::Frame(8, &code.to_be_bytes()));
+        let body = close_body(code);
+        self.put(out, conn, Item::Frame(opcode_number(Opcode::Close), &body));
     }
 
     /// A connection in phase Open or Leaving is ending. From Open, its Closed event is due, with this code and this reason of

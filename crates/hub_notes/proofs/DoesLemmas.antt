@@ -1,33 +1,7 @@
 -- Calls by their steps, one after another; and the orders of a connection.
-use Rattle.std.proofs.Common.{◌≡◌, ◌+◌, ℕ, List, [], ◌∷◌, ◌++◌, Option, Some, Bool, true, false, cond, ◌&&◌, nat_eq, length, refl, sym, ap, ◌∙◌, subst, append-nil}
-use Rattle.std.specs.List.{list_all}
-use Rattle.ws_kinds.specs.declared.note.Phase.{Phase}
-use Rattle.ws_kinds.specs.ConfigValue.{ConfigValue}
+use Rattle.hub_notes.proofs.Below.{◌≡◌, ◌+◌, ℕ, List, [], ◌∷◌, ◌++◌, Option, Some, Bool, true, false, cond, ◌&&◌, nat_eq, length, refl, sym, ap, ◌∙◌, subst, append-nil, list_all, Phase, ConfigValue, NoteValue, OrderValue, send, subscribe, unsubscribe, publish, close, Item, is_of, NetState, is_open, sends, closing, leaves_open, topics_left, with_topic, without_topic, Standing, and-assoc, Server, then_also, Step, by_note, by_order, notes_of, of_notes, standing_by, standing_obeys, standing_after, standing_after_all, standings_after, is_for, frames_of, items_by, items_of, appended_by, is_outgoing, Answers, notes_of-append, notes_of-notes, items-append, performs_more, Progress, progress_at, progress_by, progress_after, progress_after_all, may_all_come, progress_obeys, progress_by_step, progress_by_steps, may_step, may_all_step, standing_in, standings_at, FailsAfter, NetAfter, AreNoted, Advances, Proceeds, Appends, Does, Obeys, Serves, ServesAll, by_cases, clash, and_left, and_right, CountsBeside, tell_by_all, TellsBy}
 use Rattle.ws_kinds.specs.NoteValue as note
-use Rattle.ws_kinds.specs.NoteValue.{NoteValue}
-use Rattle.ws_kinds.specs.OrderValue.{OrderValue, send, subscribe, unsubscribe, publish, close}
-use Rattle.wire_meaning.specs.Answer.{Item}
-use Rattle.run_meaning.specs.Notes.{is_of}
-use Rattle.link_trait.specs.NetState.{NetState}
-use Rattle.run_meaning.specs.Lines.{is_open, sends, closing, leaves_open, topics_left, with_topic, without_topic}
-use Rattle.run_meaning.specs.Orders.{Standing}
-use Rattle.run_meaning.proofs.Parts.{and-assoc}
-use Rattle.hub_lines.specs.State.{Server}
-use Rattle.hub_lines.specs.Calls.{nothing, then_also}
-use Rattle.run_meaning.specs.Steps.{Step, by_note, by_order, notes_of, of_notes, standing_by, standing_obeys, standing_after, standing_after_all, standings_after, is_for, frames_of, items_by, items_of, appended_by}
-use Rattle.run_meaning.specs.Performs.{is_outgoing, Answers}
-use Rattle.run_meaning.proofs.NoteLemmas.{notes_of-append, notes_of-notes}
-use Rattle.run_meaning.proofs.StepLemmas.{items-append, performs_more}
-use Rattle.hub_notes.specs.Progress.{Progress, progress_at, progress_by, progress_after, progress_after_all, may_all_come, progress_obeys, progress_by_step, progress_by_steps, may_step, may_all_step, standing_in, standings_at}
-use Rattle.hub_notes.specs.NetAfter.{FailsAfter, NetAfter}
-use Rattle.ws_kinds.specs.Watch.{AreNoted}
-use Rattle.hub_notes.specs.Calls.{Advances, Proceeds, Appends, Does}
-use Rattle.hub_notes.specs.Serving.{Obeys, Serves, ServesAll}
-use Rattle.hub_notes.proofs.BoolLemmas.{by_cases, clash, and_left, and_right}
 use Rattle.hub_notes.proofs.NoteLemmas.{told_then, told_none, tells_then, counts_then, same_then, same_counts}
-use Rattle.hub_notes.specs.Quiet.{CountsBeside}
-use Rattle.run_meaning.specs.Tell.{tell_by_all}
-use Rattle.hub_notes.specs.Tells.{TellsBy}
 use Rattle.hub_notes.proofs.NetLemmas.{net_then, net_same, fails_then, fails_same}
 use Rattle.hub_notes.proofs.FrontLemmas.{appends_then, appends_as, appends_same, appends_after_nothing}
 
@@ -77,7 +51,7 @@ may_steps c (x ∷ xs) ys p =
     ap (λ (z : Bool). may_step c x p && z) (may_steps c xs ys q) ∙ and-assoc (may_step c x p) (may_all_step c xs q) (may_all_step c ys (progress_by_steps c xs q))
 
 -- notes as steps
-notes_step : (c : ℕ) (ns : List NoteValue) (p : Progress) → progress_by_steps c (of_notes ns) p ≡ progress_after_all c ns p
+pub notes_step : (c : ℕ) (ns : List NoteValue) (p : Progress) → progress_by_steps c (of_notes ns) p ≡ progress_after_all c ns p
 notes_step c [] p = refl
 notes_step c (n ∷ ns) p = notes_step c ns (progress_after c n p)
 
@@ -142,13 +116,6 @@ does_notes texts ns f a b x fails app items = record {
   fails = subst (λ (z : List NoteValue). FailsAfter z a.net b.net) (sym (notes_of-notes ns)) fails;
   appends = appends_as f (appended_by texts (of_notes ns) (standings_at a.hub)) a b app items;
 }
-
--- a call that sends and notes nothing else
-pub does_sent : (texts : ℕ → List ℕ) (a b : Server) (x : Proceeds [] [] a b) → Appends nothing a b → Does texts (of_notes x.sending) a b
-does_sent texts a b x app =
-    let all = append-nil x.sending in
-    does_notes texts x.sending nothing a b (subst (λ (z : List NoteValue). Advances z a b) all x.advances) (subst (λ (z : List NoteValue). FailsAfter z a.net b.net) all x.fails) app
-    (λ c. sym (items_outgoing texts c x.sending (standings_at a.hub c) x.outgoing))
 
 -- ---- orders
 

@@ -1,13 +1,5 @@
 -- What notes one after another say of the net.
-use Rattle.std.proofs.Common.{◌≡◌, ◌≤◌, ◌⊎◌, ◌+◌, ◌^◌, ◌-◌, ℕ, List, [], ◌∷◌, ◌++◌, Bool, true, false, cond, suc, not, ◌&&◌, ◌||◌, inl, inr, refl, sym, ap, ◌∙◌, subst, append-nil, append_assoc, arith}
-use Rattle.ws_kinds.specs.declared.note.Left.TheVariants.{LinkFailed}
-use Rattle.ws_kinds.specs.NoteValue.{NoteValue}
-use Rattle.link_trait.specs.NetState.{NetState}
-use Rattle.run_meaning.specs.Counts.{writes, taken, number_of, is_gone_in, is_gone_by_in}
-use Rattle.run_meaning.proofs.Parts.{or-assoc, writes-append, taken-append, gone-append, gone_by-append}
-use Rattle.run_meaning.specs.Performs.{is_link_failure}
-use Rattle.hub_notes.specs.NetAfter.{TrafficAfter, NetAfter, RoseBy, FailsAfter}
-use Rattle.hub_notes.proofs.BoolLemmas.{or_left, or_right, or_false, and_true, stays_live}
+use Rattle.hub_notes.proofs.Below.{◌≡◌, ◌≤◌, ◌⊎◌, ◌+◌, ◌^◌, ◌-◌, ℕ, List, [], ◌∷◌, ◌++◌, Bool, true, false, cond, suc, not, ◌&&◌, ◌||◌, inl, inr, refl, sym, ap, ◌∙◌, subst, append-nil, append_assoc, arith, LinkFailed, NoteValue, NetState, writes, taken, number_of, is_gone_in, is_gone_by_in, writes-append, taken-append, gone-append, gone_by-append, or-assoc, or_left, or_right, or_false, and_true, stays_live, is_link_failure, TrafficAfter, NetAfter, RoseBy, FailsAfter}
 
 -- ---- traffic
 
@@ -61,7 +53,7 @@ net_same a = record {
 
 -- ---- writes that failed
 
-number_then : {A : Type 0} (p : A → Bool) (xs ys : List A) → number_of p (xs ++ ys) ≡ number_of p xs + number_of p ys
+pub number_then : {A : Type 0} (p : A → Bool) (xs ys : List A) → number_of p (xs ++ ys) ≡ number_of p xs + number_of p ys
 number_then p [] ys = let e : number_of p [] ≡ 0 = refl in omega arith
 number_then p (x ∷ xs) ys = one (p x) (number_of p xs) (number_of p ys) (number_of p (xs ++ ys)) (number_then p xs ys)
   where
@@ -75,14 +67,11 @@ rose_each count more old mid new last (inl a) (inl b) = inl (omega arith)
 rose_each count more old mid new last (inr a) (inl b) = inr (omega arith)
 rose_each count more old mid new last e (inr b) = inr b
 
-rose_none : (count more old mid new : ℕ) → (count ≡ 0 → mid ≡ old) → (more ≡ 0 → new ≡ mid) → count + more ≡ 0 → new ≡ old
-rose_none count more old mid new p q e = q (omega arith) ∙ p (omega arith)
-
 pub rose_then : (count more old mid new : ℕ) → RoseBy count old mid → RoseBy more mid new → RoseBy (count + more) old new
-rose_then count more old mid new p q = record { none = rose_none count more old mid new p.none q.none; each = rose_each count more old mid new (2 ^ 64 - 1) p.each q.each }
+rose_then count more old mid new p q = record { least = let a = p.least in let b = q.least in omega arith; each = rose_each count more old mid new (2 ^ 64 - 1) p.each q.each }
 
 pub rose_same : (count : ℕ) → RoseBy 0 count count
-rose_same count = record { none = λ e. refl; each = inl (omega arith) }
+rose_same count = record { least = omega arith; each = inl (omega arith) }
 
 pub fails_then : (xs ys : List NoteValue) (a b d : NetState) → b.tells ≡ a.tells → FailsAfter xs a b → FailsAfter ys b d → FailsAfter (xs ++ ys) a d
 fails_then xs ys a b d tells p q = record {

@@ -1,19 +1,5 @@
 -- Notes one after another.
-use Rattle.std.proofs.Common.{◌≡◌, ℕ, List, [], ◌∷◌, ◌++◌, Option, Some, None, Bool, true, false, cond, ◌&&◌, refl, sym, ap, ◌∙◌, append-nil, append_assoc}
-use Rattle.std.specs.List.{list_all, list_any}
-use Rattle.ws_kinds.specs.NoteValue.{NoteValue}
-use Rattle.ws_kinds.specs.Watch.{IsNoted, AreNoted}
-use Rattle.run_meaning.specs.Notes.{is_of, is_turn}
-use Rattle.run_meaning.proofs.Parts.{and-assoc, list_all-append, list_any-append}
-use Rattle.run_meaning.specs.Tell.{tell_by_all}
-use Rattle.run_meaning.proofs.TellLemmas.{all_then}
-use Rattle.hub_lines.specs.State.{HubState}
-use Rattle.hub_notes.specs.Tells.{tell_at, TellsBy}
-use Rattle.hub_notes.proofs.BoolLemmas.{or_left, or_right, and_left, and_right}
-use Rattle.run_meaning.specs.Quiet.{is_uncounted}
-use Rattle.hub_notes.specs.Quiet.{SameCounts, CountsBeside}
-use Rattle.run_meaning.specs.Performs.{is_outgoing}
-use Rattle.hub_notes.specs.Progress.{Progress, progress_after, progress_after_all, may_come, may_all_come}
+use Rattle.hub_notes.proofs.Below.{◌≡◌, ℕ, List, [], ◌∷◌, ◌++◌, Option, Some, None, Bool, true, false, cond, ◌&&◌, refl, sym, ap, ◌∙◌, append-nil, append_assoc, list_all, list_any, NoteValue, IsNoted, AreNoted, is_of, is_turn, and-assoc, list_all-append, list_any-append, tell_by_all, all_then, HubState, tell_at, TellsBy, or_left, or_right, and_left, and_right, is_uncounted, SameCounts, CountsBeside, is_outgoing, Progress, progress_after, progress_after_all, may_come, may_all_come}
 
 -- ---- what the watch is told
 

@@ -1,25 +1,7 @@
 -- Which connections are there after a call, by its notes, and that their links are live.
-use Rattle.std.proofs.Common.{◌≡◌, ℕ, List, [], ◌∷◌, ◌++◌, Option, Some, None, Bool, true, false, cond, not, ◌&&◌, ◌||◌, refl, sym, ap, ◌∙◌, arith}
-use Rattle.std.proofs.lemmas.Bool.Decides.{nat_tests}
-use Rattle.std.specs.List.{list_all, list_any}
-use Rattle.ws_kinds.specs.declared.note.Left.{Left}
-use Rattle.ws_kinds.specs.declared.note.Phase.{Phase}
-use Rattle.ws_kinds.specs.declared.note.Phase.TheVariants.{Head, Open, Leaving, Ending, Gone}
+use Rattle.hub_notes.proofs.Below.{◌≡◌, ℕ, List, [], ◌∷◌, ◌++◌, Option, Some, None, Bool, true, false, cond, not, ◌&&◌, ◌||◌, refl, sym, ap, ◌∙◌, arith, nat_tests, list_all, list_any, Left, Phase, Head, Open, Leaving, Ending, Gone, NoteValue, is_of, is_gone, is_acceptance, gather, accepted_by, has_number, is_accepted, is_gone_in, moved, list_any-append, has_number-append, HubState, Server, is_present, entry_at, Ties, is_outgoing, Progress, progress_at, progress_by, progress_after, progress_after_all, unless_gone, Advances, Proceeds, by_cases, clash, or_left, or_right, and_left, and_right, none_moves}
 use Rattle.ws_kinds.specs.NoteValue as note
-use Rattle.ws_kinds.specs.NoteValue.{NoteValue}
-use Rattle.run_meaning.specs.Notes.{is_of, is_gone, is_acceptance}
-use Rattle.run_meaning.specs.Counts.{gather, accepted_by, has_number, is_accepted, is_gone_in}
-use Rattle.run_meaning.specs.Lines.{moved}
-use Rattle.run_meaning.proofs.Parts.{list_any-append}
-use Rattle.run_meaning.proofs.Kept.{has_number-append}
 use Rattle.hub_lines.specs.State as hub
-use Rattle.hub_lines.specs.State.{HubState, Server, is_present, entry_at}
-use Rattle.hub_lines.specs.Calls.{Ties}
-use Rattle.run_meaning.specs.Performs.{is_outgoing}
-use Rattle.hub_notes.specs.Progress.{Progress, progress_at, progress_by, progress_after, progress_after_all}
-use Rattle.run_meaning.specs.Orders.{unless_gone}
-use Rattle.hub_notes.specs.Calls.{Advances, Proceeds}
-use Rattle.hub_notes.proofs.BoolLemmas.{by_cases, clash, or_left, or_right, and_left, and_right}
 
 -- ---- notes that say that a connection was accepted
 
@@ -51,10 +33,6 @@ outgoing_unaccepted (n ∷ ns) e =
 
 -- ---- a connection without a phase
 
-none_moves : (c : ℕ) (n : NoteValue) → has_number c (accepted_by n) ≡ false → is_of c n ≡ true → moved None n ≡ None
-none_moves c (note.accepted d) e own = absurd (grind (arith, nat_tests))
-none_moves c _ e own = refl
-
 gone_moves : (phase : Option Phase) (d : ℕ) (left : Left) → unless_gone (moved phase (note.gone d left)) ≡ None
 gone_moves None d left = refl
 gone_moves (Some Head) d left = refl
@@ -63,10 +41,10 @@ gone_moves (Some Leaving) d left = refl
 gone_moves (Some Ending) d left = refl
 gone_moves (Some Gone) d left = refl
 
-own_note : (c : ℕ) (n : NoteValue) (p : Progress) → is_of c n ≡ true → progress_after c n p ≡ progress_by n p
+pub own_note : (c : ℕ) (n : NoteValue) (p : Progress) → is_of c n ≡ true → progress_after c n p ≡ progress_by n p
 own_note c n p e = ap (λ (z : Bool). cond z (progress_by n p) p) e
 
-other_note : (c : ℕ) (n : NoteValue) (p : Progress) → is_of c n ≡ false → progress_after c n p ≡ p
+pub other_note : (c : ℕ) (n : NoteValue) (p : Progress) → is_of c n ≡ false → progress_after c n p ≡ p
 other_note c n p e = ap (λ (z : Bool). cond z (progress_by n p) p) e
 
 abbrev phase_of : Progress → Option Phase
@@ -81,7 +59,7 @@ one_gone : (c : ℕ) (n : NoteValue) (p : Progress) → is_gone c n ≡ true →
 one_gone c (note.gone d left) p e = ap phase_of (own_note c (note.gone d left) p e) ∙ gone_moves p.phase d left
 one_gone c _ p e = clash false refl e
 
-rest_unaccepted : (c : ℕ) (n : NoteValue) (ns : List NoteValue) → is_accepted c (n ∷ ns) ≡ false → (has_number c (accepted_by n) ≡ false) × (is_accepted c ns ≡ false)
+pub rest_unaccepted : (c : ℕ) (n : NoteValue) (ns : List NoteValue) → is_accepted c (n ∷ ns) ≡ false → (has_number c (accepted_by n) ≡ false) × (is_accepted c ns ≡ false)
 rest_unaccepted c n ns e =
     let both = sym (has_number-append c (accepted_by n) (gather accepted_by ns)) ∙ e in
     (or_left (has_number c (accepted_by n)) (is_accepted c ns) both, or_right (has_number c (accepted_by n)) (is_accepted c ns) both)

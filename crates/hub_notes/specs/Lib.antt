@@ -8,3 +8,4 @@ pub mod Serving
 pub mod Table
 pub mod Answers
 pub mod Turns
+pub mod All

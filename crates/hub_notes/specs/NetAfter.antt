@@ -26,9 +26,9 @@ pub record NetAfter (notes : List NoteValue) (old new : NetState) : Type 0 where
   pub port : new.port ≡ old.port
   pub room : new.room ≤ old.room
 
--- The count of faults rose at least by so many, unless it stands at its end. It did not rise where they are none.
+-- The count of faults did not fall, and it rose at least by so many, unless it stands at its end.
 pub record RoseBy (count old new : ℕ) : Type 0 where
-  pub none : count ≡ 0 → new ≡ old
+  pub least : old ≤ new
   pub each : (old + count ≤ new) ⊎ (2 ^ 64 - 1 ≤ new)
 
 -- writes of links failed exactly as the notes say: a connection is gone since its link failed where a write of it did

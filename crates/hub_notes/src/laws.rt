@@ -87,13 +87,15 @@ pub fn ties_follow()
 pub fn steps_of_calls()
     ensures both { (texts : ℕ → List ℕ) (first more : List Step) (a b c : Server) → Does texts first a b → Does texts more b c → Does texts (first ++ more) a c }
     ensures none { (texts : ℕ → List ℕ) (s : Server) → Does texts [] s s }
-    ensures notes { (texts : ℕ → List ℕ) (notes : List NoteValue) (appended : ℕ → List Item) (a b : Server) → Advances notes a b → FailsAfter notes a.net b.net → Appends appended a b →
+    ensures notes { (texts : ℕ → List ℕ) (notes : List NoteValue) (appended : ℕ → List Item) (a b : Server) → Advances notes a b →
+        FailsAfter notes a.net b.net → Appends appended a b →
         ((conn : ℕ) → appended conn ≡ appended_by texts (of_notes notes) (standings_at a.hub) conn) → Does texts (of_notes notes) a b }
 {}
 
 /// Orders, one after another. An order is served where the tables change as it says and its frames are then put.
 pub fn orders_in_order()
-    ensures order { (texts : ℕ → List ℕ) (from : ℕ) (order : OrderValue) (appended : ℕ → List Item) (a b c : Server) (obeys : Obeys from order a b) (steps : Proceeds [] [] b c) → Appends appended b c →
+    ensures order { (texts : ℕ → List ℕ) (from : ℕ) (order : OrderValue) (appended : ℕ → List Item) (a b c : Server)
+        (obeys : Obeys from order a b) (steps : Proceeds [] [] b c) → Appends appended b c →
         ((conn : ℕ) → appended conn ≡ (if is_for from conn order (standings_at a.hub conn).topics then frames_of order else [])) →
         ((conn : ℕ) → is_for from conn order (standings_at a.hub conn).topics ≡ true → is_open (standings_at a.hub conn).phase ≡ true) →
         Does texts (by_order from order ∷ of_notes steps.sending) a c }

@@ -1,25 +1,6 @@
 -- What connections are after octets went out.
-use Rattle.std.proofs.Common.{◌≡◌, ◌⊎◌, inl, inr, ◌<◌, ◌+◌, ◌^◌, ◌-◌, ℕ, List, [], ◌∷◌, ◌++◌, Option, Some, None, Bool, true, false, cond, not, length, refl, sym, ap, ◌∙◌, subst, append-nil, append_assoc, length-append, arith}
-use Rattle.std.specs.List.{list_all}
-use Rattle.ws_kinds.specs.declared.note.Phase.{Phase}
-use Rattle.ws_kinds.specs.declared.note.Phase.TheVariants.{Head, Open, Leaving, Ending, Gone}
+use Rattle.hub_orders.proofs.Below.{◌≡◌, ◌⊎◌, inl, inr, ◌<◌, ◌+◌, ◌^◌, ◌-◌, ℕ, List, [], ◌∷◌, ◌++◌, Option, Some, None, Bool, true, false, cond, not, length, refl, sym, ap, ◌∙◌, subst, append-nil, append_assoc, length-append, arith, list_all, Phase, Head, Open, Leaving, Ending, Gone, NoteValue, Item, is_of, is_open, has_topic, unless_gone, HubState, Server, is_present, is_gone, entry_at, is_dropped, KeepsLine, is_outgoing, Progress, progress_at, progress_by, progress_after, progress_after_all, standings_at, KeepsFront, items_at, TakesFront, Proceeds, Appends, by_cases, clash, and_left, and_right, front_later, fewer, unaccepted, outgoing_unaccepted, none_stays, away_by_phase}
 use Rattle.ws_kinds.specs.NoteValue as note
-use Rattle.ws_kinds.specs.NoteValue.{NoteValue}
-use Rattle.wire_meaning.specs.Answer.{Item}
-use Rattle.run_meaning.specs.Notes.{is_of}
-use Rattle.run_meaning.specs.Lines.{is_open, has_topic}
-use Rattle.run_meaning.specs.Orders.{unless_gone}
-use Rattle.hub_lines.specs.State.{HubState, Server, is_present, is_gone, entry_at}
-use Rattle.hub_lines.specs.Told.{is_dropped}
-use Rattle.hub_lines.specs.Calls.{KeepsLine}
-use Rattle.run_meaning.specs.Performs.{is_outgoing}
-use Rattle.hub_notes.specs.Progress.{Progress, progress_at, progress_by, progress_after, progress_after_all, standings_at}
-use Rattle.hub_notes.specs.Fronts.{KeepsFront, items_at}
-use Rattle.hub_lines.specs.Fronts.{TakesFront}
-use Rattle.hub_notes.specs.Calls.{Proceeds, Appends}
-use Rattle.hub_notes.proofs.BoolLemmas.{by_cases, clash, and_left, and_right}
-use Rattle.hub_notes.proofs.FrontLemmas.{front_later}
-use Rattle.hub_notes.proofs.TieLemmas.{unaccepted, outgoing_unaccepted, none_stays, away_by_phase}
 
 abbrev progress : Option Phase → List (List ℕ) → Option (ℕ × List ℕ) → Progress
 progress p ts x = record { phase = p; topics = ts; due = x }
@@ -95,9 +76,6 @@ sent_or_gone a b x c = one (all_outgoing c x.sending (progress_at a.hub c) x.out
     one (inr away) = inr (away_by_phase b.hub c (ap (λ (z : Progress). z.phase) adv ∙ away))
 
 -- ---- further items of those who are gone
-
-fewer : (i x y k last : ℕ) → k ≡ x + y → i + k < last → i + x < last
-fewer i x y k last e few = omega arith
 
 same_notes : (new old : List NoteValue) → Some new ≡ Some old → new ≡ old
 same_notes new old e = cc

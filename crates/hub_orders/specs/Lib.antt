@@ -1,3 +1,4 @@
 pub mod Publishing
 pub mod Closing
 pub mod AnyOrders
+pub mod All

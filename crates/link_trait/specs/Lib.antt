@@ -8,3 +8,4 @@ pub mod StdSource
 pub mod StdSink
 pub mod NetState
 pub mod Net
+pub mod All

@@ -53,10 +53,14 @@ pub record SameTold (old new : NetState) : Type 0 where
   pub passed : new.passed ≡ old.passed
   pub rested : new.rested ≡ old.rested
 
+-- a fault was counted; the count never falls
+abbrev pub CountsFault : ℕ → ℕ → Type 0
+CountsFault old new = (old ≤ new) × Rose old new
+
 -- `listen`
 abbrev pub ListensAt : ℕ → Listening → NetState → NetState → Type 0
-ListensAt port listening.Ready old new = (new.port ≡ Some port) × (new.faults ≡ old.faults)
-ListensAt port listening.Failed old new = (new.port ≡ old.port) × Rose old.faults new.faults
+ListensAt port listening.Ready old new = (new.port ≡ Some port) × (old.faults ≤ new.faults)
+ListensAt port listening.Failed old new = (new.port ≡ old.port) × CountsFault old.faults new.faults
 
 pub record Listens (asked : ℕ) (result : Listening) (old new : NetState) : Type 0 where
   pub net : SameNet old new
@@ -141,10 +145,10 @@ pub record NextTold (result : NetEvent) (old new : NetState) : Type 0 where
   pub passed : new.passed ≡ passed_after old.passed result
   pub rested : new.rested ≡ is_rest result
 
--- Failed counts a fault, and no other answer does
+-- Failed comes only where a fault was counted
 abbrev pub CountsNextFaults : NetEvent → ℕ → ℕ → Type 0
-CountsNextFaults event.Failed old new = Rose old new
-CountsNextFaults _ old new = new ≡ old
+CountsNextFaults event.Failed old new = CountsFault old new
+CountsNextFaults _ old new = old ≤ new
 
 pub record Nexts (result : NetEvent) (old new : NetState) : Type 0 where
   pub net : SameNet old new
@@ -181,8 +185,8 @@ pub record ReadTold (conn : ℕ) (space : List ℕ) (result : NetRead) (old new 
   pub rested : new.rested ≡ false
 
 abbrev pub CountsNetReadFaults : NetRead → ℕ → ℕ → Type 0
-CountsNetReadFaults read.Failed old new = Rose old new
-CountsNetReadFaults _ old new = new ≡ old
+CountsNetReadFaults read.Failed old new = CountsFault old new
+CountsNetReadFaults _ old new = old ≤ new
 
 pub record Reads (conn : ℕ) (space : List ℕ) (result : NetRead) (old new : NetState) : Type 0 where
   pub net : SameNet old new
@@ -235,8 +239,8 @@ WritableAfter (wrote.Took n) len old new = new ≡ (if nat_lt n len then false e
 WritableAfter wrote.Failed len old new = new ≡ old
 
 abbrev pub CountsNetWriteFaults : NetWrote → ℕ → ℕ → Type 0
-CountsNetWriteFaults (wrote.Took n) old new = new ≡ old
-CountsNetWriteFaults wrote.Failed old new = Rose old new
+CountsNetWriteFaults (wrote.Took n) old new = old ≤ new
+CountsNetWriteFaults wrote.Failed old new = CountsFault old new
 
 pub record Writes (conn : ℕ) (octets : List ℕ) (result : NetWrote) (old new : NetState) : Type 0 where
   pub net : SameNet old new
@@ -262,4 +266,4 @@ pub record Shuts (conn : ℕ) (old new : NetState) : Type 0 where
   pub writable_elsewhere : SameBut conn old.writable new.writable
   pub room : new.room ≤ old.room
   pub port : new.port ≡ old.port
-  pub faults : new.faults ≡ old.faults
+  pub faults : old.faults ≤ new.faults

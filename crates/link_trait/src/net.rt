@@ -55,8 +55,10 @@ pub enum Listening {
 /// Many connections, and what happens on them, told one event at a time.
 ///
 /// After a read that gave octets, a net in which more octets, the end or a fault of that connection stand ready tells
-/// `Readable` again by itself. So a caller reads once for each `Readable`. Only an answer `Failed` raises the count of
-/// faults.
+/// `Readable` again by itself. So a caller reads once for each `Readable`.
+///
+/// The count of faults never falls, and each answer `Failed` comes only where it rose in that call. It may rise in any call: a net may
+/// count a fault that it passes over.
 pub trait Net {
     ghost use Rattle.std.specs.Prelude.{◌≡◌, ◌<◌, true, length};
     ghost use Rattle.link_trait.specs.NetState.{NetState};

@@ -1,12 +1,6 @@
 -- How the list of the net's answers grows.
-use Rattle.std.proofs.Common.{◌≡◌, ◌≢◌, ◌≤◌, ◌<◌, ◌+◌, ◌-◌, ◌^◌, ℕ, zero, suc, min, take, drop, List, [], ◌∷◌, ◌++◌, length, Bool, true, false, cond, nat_lt, refl, sym, ap, ◌∙◌, subst, arith, append-nil, append_assoc, length-append}
-use Rattle.std.proofs.lemmas.List.{take_all, length-take, take-append-drop}
-use Rattle.std.proofs.lemmas.Bool.Decides.{nat_tests}
-use Rattle.link_trait.specs.Net.{passing, passed_after}
-use Rattle.link_trait.specs.declared.net.NetEvent.{NetEvent}
+use Rattle.loop_runner.proofs.Below.{◌≡◌, ◌≢◌, ◌≤◌, ◌<◌, ◌+◌, ◌-◌, ◌^◌, ℕ, zero, suc, min, take, drop, List, [], ◌∷◌, ◌++◌, length, Bool, true, false, cond, nat_lt, refl, sym, ap, ◌∙◌, subst, arith, append-nil, append_assoc, length-append, take_all, length-take, take-append-drop, nat_tests, passing, passed_after, NetEvent, by_cases, GrowsBy}
 use Rattle.link_trait.specs.declared.net.NetEvent.TheVariants as event
-use Rattle.hub_notes.proofs.BoolLemmas.{by_cases}
-use Rattle.loop_runner.specs.Turns.{GrowsBy}
 
 -- what is taken of two lists, one after the other
 take_both : (n : ℕ) (xs ys : List NetEvent) → take n (xs ++ ys) ≡ take n xs ++ take (n - length xs) ys
@@ -40,22 +34,6 @@ grows_whole xs a b x few =
   where
     fits : (m a b n : ℕ) → b ≡ a + min (m - a) n → b < m → n ≤ m - a
     fits m a b n e few = omega (arith, e, few)
-
--- what came, and what it had no room for
-pub grows_front : (xs a b : List NetEvent) → GrowsBy xs a b → (front : List NetEvent) × (behind : List NetEvent) × (xs ≡ front ++ behind) × (b ≡ a ++ front) × (behind ≢ [] → 2 ^ 64 - 1 ≤ length b)
-grows_front xs a b x =
-    let room = 2 ^ 64 - 1 - length a in
-    let long : length b ≡ length a + min room (length xs) = ap length x ∙ length-append a (take room xs) ∙ ap (λ (z : ℕ). length a + z) (length-take room xs) in
-    (take room xs, drop room xs, sym (take-append-drop room xs), x, λ some. full (2 ^ 64 - 1) (length a) (length b) (length xs) long (more room xs some))
-  where
-    more : (n : ℕ) (xs : List NetEvent) → drop n xs ≢ [] → n < length xs
-    more zero [] some = absurd (some refl)
-    more zero (x ∷ xs) some = omega arith
-    more (suc n) [] some = absurd (some refl)
-    more (suc n) (x ∷ xs) some = let less = more n xs some in omega arith
-
-    full : (m a b n : ℕ) → b ≡ a + min (m - a) n → m - a < n → m ≤ b
-    full m a b n e less = omega (arith, e, less)
 
 -- some came, then more, and then the last
 pub grows_last : (xs ys last a b d : List NetEvent) → GrowsBy xs a b → GrowsBy (ys ++ last) b d → GrowsBy ((xs ++ ys) ++ last) a d

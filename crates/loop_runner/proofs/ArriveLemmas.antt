@@ -1,45 +1,11 @@
 -- Connections that come.
-use Rattle.std.proofs.Common.{◌≡◌, ◌≢◌, ◌≤◌, ◌<◌, ◌^◌, ◌-◌, inl, ⊎_elim, ℕ, List, [], ◌∷◌, ◌++◌, length, Option, Some, None, Bool, true, false, cond, is_some, refl, sym, ap, ◌∙◌, subst, arith}
-use Rattle.std.proofs.lemmas.Bool.{cases_eq}
-use Rattle.ws_kinds.specs.declared.conn.Conn.{Conn}
-use Rattle.ws_kinds.specs.declared.handler.Handler.{Ghosts as HandlerMeaning}
-use Rattle.ws_kinds.specs.declared.note.Phase.{Phase}
-use Rattle.ws_kinds.specs.declared.note.Phase.TheVariants.{Head, Open, Leaving, Ending, Gone}
+use Rattle.loop_runner.proofs.Below.{◌||◌, ◌≡◌, ◌≢◌, ◌≤◌, ◌<◌, ◌^◌, ◌-◌, inl, ⊎_elim, ℕ, List, [], ◌∷◌, length, Option, Some, None, Bool, true, false, cond, is_some, refl, sym, ap, ◌∙◌, subst, arith, cases_eq, Conn, HandlerMeaning, Phase, Head, Open, Leaving, Ending, Gone, NoteValue, IsNoted, NetState, Nexts, Shuts, moved, unless_gone, is_reading, is_silent, HubState, Server, server, is_present, has_entry, phase_at, Ties, nothing, Progress, progress_at, progress_by, Appends, IsTable, table_of, Makes, Arrives, Taken, by_cases, clash, of_here, of_other, phase_of_away, IntakeView, AreThere, there_arrived, there_shut, away, Intake, Intakes, max_of, intake_at, IsNew, ChangesIntake, SameIntakes, IsTaken, Every, Steps, Running, Onward, is_kept_at, Beginning, KeptAll, beginning, intake_view, with_view, Moment, TakesIn, reading_at, is_turn, is_link_failure}
 use Rattle.ws_kinds.specs.NoteValue as note
-use Rattle.ws_kinds.specs.NoteValue.{NoteValue}
-use Rattle.ws_kinds.specs.Watch.{IsNoted}
-use Rattle.link_trait.specs.NetState.{NetState}
-use Rattle.link_trait.specs.Net.{Nexts, Shuts}
 use Rattle.link_trait.specs.declared.net.NetEvent.TheVariants as event
-use Rattle.run_meaning.specs.Lines.{moved}
-use Rattle.run_meaning.specs.Orders.{unless_gone}
-use Rattle.run_meaning.specs.Settled.{is_reading}
-use Rattle.hub_lines.specs.Told.{is_silent}
-use Rattle.hub_lines.specs.State.{HubState, Server, server, is_present, is_gone, entry_at, has_entry, phase_at}
-use Rattle.hub_lines.specs.Calls.{Ties, nothing}
-use Rattle.hub_notes.specs.Progress.{Progress, due_at, progress_at, progress_by}
-use Rattle.hub_notes.specs.Calls.{Appends}
-use Rattle.hub_notes.specs.Table.{IsTable, table_of}
-use Rattle.hub_notes.specs.Answers.{Makes, Arrives}
-use Rattle.hub_notes.specs.declared.arrival.Arrival.TheVariants.{Taken}
-use Rattle.hub_notes.proofs.BoolLemmas.{by_cases, clash}
-use Rattle.hub_lines.proofs.EntryLemmas.{present_entry}
-use Rattle.hub_notes.proofs.TieLemmas.{phase_of_away}
-use Rattle.hub_core.proofs.CallLemmas.{of_here, of_other}
-use Rattle.run_kept.specs.Kept.{IntakeView}
-use Rattle.run_kept.specs.Ends.{AreThere}
-use Rattle.run_kept.proofs.EndLemmas.{there_arrived, there_shut}
-use Rattle.loop_runner.specs.declared.intakes.Intake.{Intake}
-use Rattle.loop_runner.specs.declared.intakes.Intakes.{Intakes}
-use Rattle.loop_runner.specs.Intakes.{max_of, intake_at, IsNew, ChangesIntake, SameIntakes}
-use Rattle.loop_runner.specs.Ready.{IsTaken}
-use Rattle.loop_runner.specs.Steps.{Every, But, Steps, Running, Onward, is_kept_at}
-use Rattle.loop_runner.specs.Keeps.{Beginning, KeptAll, beginning, intake_view, with_view}
-use Rattle.loop_runner.specs.Moments.{Moment, TakesIn}
-use Rattle.loop_runner.proofs.GrowLemmas.{grows_makes, grows_shut}
-use Rattle.loop_runner.proofs.ProgressLemmas.{begins, kept_by, kept_at, phase_read, reading_at, read_present, not_true}
+use Rattle.loop_runner.proofs.GrowLemmas.{grows_shut}
+use Rattle.loop_runner.proofs.ProgressLemmas.{kept_by, kept_at, phase_read, read_present}
 use Rattle.loop_runner.proofs.RunningLemmas.{running_steps, running_same, running_shut, taken_away}
-use Rattle.loop_runner.proofs.StepLemmas.{rises_by, steps_makes, steps_noted, steps_then}
+use Rattle.loop_runner.proofs.StepLemmas.{onward_makes, onward_still, starts, steps_makes, steps_noted, steps_still, steps_then}
 use Rattle.loop_runner.proofs.ViewLemmas.{new_here, views_new, views_same, views_shut}
 
 -- ---- a connection that is not there
@@ -47,29 +13,14 @@ use Rattle.loop_runner.proofs.ViewLemmas.{new_here, views_new, views_same, views
 absent : (h : HubState) (c : ℕ) → IsTable (table_of h) → h.named < c → has_entry h.entries c ≡ false
 absent h c table new = by_cases (has_entry h.entries c) (λ e. absurd (let least : c ≤ h.named = table.named c e in omega arith)) (λ e. e)
 
-away : (h : HubState) (c : ℕ) → IsTable (table_of h) → h.named < c → is_present h c ≡ false
-away h c table new = by_cases (is_present h c) (λ e. clash (has_entry h.entries c) (absent h c table new) (present_entry h.entries c e)) (λ e. e)
-
 -- its link is shut
 steps_shut : (conn : ℕ) (h : HubState) (a b : NetState) (t : Option (List NoteValue)) → Shuts conn a b → is_present h conn ≡ false → Steps Every (server h a t) (server h b t)
-steps_shut conn h a b t x gone = record {
-  onward = record { grows = grows_shut conn h a b t x; room = x.room; passed = λ told. (x.told told).passed; faults = let e = x.faults in inl (omega arith) };
-  config = refl;
-  named = refl;
-  net_named = x.named;
-  table = λ table. table;
-  ties = λ ties c there. x.live_elsewhere c (other c there) ∙ ties c there;
-  short = λ short. short;
-  waits = λ waits c there some. x.writable_elsewhere c (other c there) ∙ waits c there some;
-  there = λ there c live. ⊎_elim
-      (λ (same : c ≡ conn). clash (b.live c) (ap b.live same ∙ x.live) live)
-      (λ (ne : c ≡ conn → ⊥). there c (sym (x.live_elsewhere c ne) ∙ live)) (cases_eq c conn);
-  kept = λ c k. k;
-  reading = λ c r. r;
-  due = λ c _ r. x.due_elsewhere c (other c (read_present h c r));
-  phase = λ c _ r. inl refl;
-  weight = λ c _. omega arith;
-}
+steps_shut conn h a b t x gone = steps_still Every h a b t t (onward_still h h a b t (grows_shut conn h a b t x) x.room (λ told. (x.told told).passed) x.faults)
+    x.named (λ ties c there. x.live_elsewhere c (other c there) ∙ ties c there) (λ short. short) (λ waits c there some. x.writable_elsewhere c (other c there) ∙ waits c there some)
+    (λ there c live. ⊎_elim
+    (λ (same : c ≡ conn). clash (b.live c) (ap b.live same ∙ x.live) live)
+    (λ (ne : c ≡ conn → ⊥). there c (sym (x.live_elsewhere c ne) ∙ live)) (cases_eq c conn))
+    (λ c _ r. x.due_elsewhere c (other c (read_present h c r)))
   where
     other : (c : ℕ) → is_present h c ≡ true → c ≢ conn
     other c there same = clash (is_present h conn) gone (ap (is_present h) (sym same) ∙ there)
@@ -160,13 +111,8 @@ module _ (conn : ℕ) (old new : Intakes) (a b : Server) (x : Running Every old 
         (λ (ne : c ≡ conn → ⊥). taken_before c intake ne (x.taken c (tt {0}) intake (sym (change.others c ne) ∙ at))) (cases_eq c conn);
   }
 
-  onward_accepted : Onward a b
-  onward_accepted = record {
-    grows = grows_makes (note.accepted conn ∷ []) a b makes;
-    room = makes.advances.net.room;
-    passed = λ t. (makes.advances.net.told t).passed;
-    faults = rises_by _ a.net.faults b.net.faults makes.fails.faults;
-  }
+  onward_accepted : Onward 0 0 a b
+  onward_accepted = onward_makes (note.accepted conn) a b makes refl
 
 -- ---- what comes of it
 
@@ -184,10 +130,10 @@ module _ {H : Type 0} {handler : HandlerMeaning H} (conn : Conn) (old : Intakes)
   to s = record { server = s; now = now }
 
   -- the loop turned it away
-  pub turned_away : (new : Intakes) (n : NoteValue) (end : NetState) (t' : Option (List NoteValue)) → SameIntakes old new → IsNoted t n t' → ((c : ℕ) → is_silent c n ≡ true) → Shuts conn.0 net end
+  pub turned_away : (new : Intakes) (n : NoteValue) (end : NetState) (t' : Option (List NoteValue)) → SameIntakes old new → IsNoted t n t' → ((c : ℕ) → is_silent c n ≡ true) → (is_turn n || is_link_failure n) ≡ false → Shuts conn.0 net end
       → KeepsAs conn h net t now (server h end t') (λ views. views) → TakesIn (event.Accept conn) old new from (to (server h end t'))
-  turned_away new n end t' same noted silent shuts keep =
-      let s : Steps Every (server h net t) (server h end t') = steps_then Every (server h net t) (server h net t') (server h end t') (steps_noted n h net t t' noted silent) (steps_shut conn.0 h net end t' shuts (away h conn.0 x.table fresh)) in
+  turned_away new n end t' same noted silent none shuts keep =
+      let s : Steps Every (server h net t) (server h end t') = steps_then Every (server h net t) (server h net t') (server h end t') (steps_noted n h net t t' noted silent none) (steps_shut conn.0 h net end t' shuts (away h conn.0 x.table fresh)) in
       record {
         running = running_same Every old new (server h end t') (running_steps Every old (server h net t) (server h end t') x s) same;
         onward = s.onward;
@@ -197,7 +143,7 @@ module _ {H : Type 0} {handler : HandlerMeaning H} (conn : Conn) (old : Intakes)
 
   -- the hub refused it
   pub refused : (mid new : Intakes) (n : NoteValue) (b : Server) (end : NetState) (t' : Option (List NoteValue)) → t' ≡ b.told → ChangesIntake conn.0 old mid → ChangesIntake conn.0 mid new → intake_at new conn.0 ≡ None → b.hub ≡ h
-      → Makes (n ∷ []) (server h net t) b → Appends nothing (server h net t) b → Ties b → IsTable (table_of b.hub) → begins n ≡ false → Shuts conn.0 b.net end
+      → Makes (n ∷ []) (server h net t) b → Appends nothing (server h net t) b → Ties b → IsTable (table_of b.hub) → starts n ≡ false → Shuts conn.0 b.net end
       → KeepsAs conn h net t now (server b.hub end b.told) (λ views. views) → TakesIn (event.Accept conn) old new from (to (server b.hub end t'))
   refused mid new n b end t' told one two none same makes app ties table calm shuts keep =
       let change = shut_after conn.0 old mid new one two in

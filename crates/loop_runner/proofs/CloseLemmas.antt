@@ -1,36 +1,12 @@
 -- Closed events, one after another.
-use Rattle.std.proofs.Common.{◌≡◌, ◌≤◌, ◌<◌, inl, ⊎_elim, ℕ, zero, suc, List, [], ◌∷◌, ◌++◌, Option, Some, None, Bool, true, false, cond, is_some, ◌||◌, refl, sym, ap, ◌∙◌, subst, arith}
-use Rattle.std.proofs.lemmas.Bool.{cases_eq}
-use Rattle.ws_kinds.specs.declared.note.Phase.{Phase}
+use Rattle.loop_runner.proofs.Below.{◌≡◌, ◌≤◌, ◌<◌, inl, ⊎_elim, ℕ, zero, suc, List, [], ◌∷◌, ◌++◌, Option, Some, None, Bool, true, false, cond, is_some, ◌||◌, refl, sym, ap, ◌∙◌, subst, arith, cases_eq, Phase, EventValue, NoteValue, IsNoted, NetState, is_accepted, is_open, accepted_more, HubState, Server, server, PartingValue, entry_of, has_entry, phase_at, Ties, nothing, Progress, progress_at, Appends, IsTable, TakesDue, table_of, told_one, told_is, due_taken, IntakeView, event_for, due_accepted, sound_closed, sound_serves, closed_given, Intakes, Every, Steps, is_kept_at, weight_of, weight_at, weight_below, Beginning, KeptAll, meaning_of, HandsOut, ServesOrders}
 use Rattle.ws_kinds.specs.EventValue as event
-use Rattle.ws_kinds.specs.EventValue.{EventValue}
 use Rattle.ws_kinds.specs.NoteValue as note
-use Rattle.ws_kinds.specs.NoteValue.{NoteValue}
-use Rattle.ws_kinds.specs.Watch.{IsNoted}
-use Rattle.link_trait.specs.NetState.{NetState}
-use Rattle.run_meaning.specs.Counts.{is_accepted}
-use Rattle.run_meaning.specs.Lines.{is_open}
-use Rattle.run_meaning.proofs.Throughout.{accepted_more}
-use Rattle.hub_lines.specs.State.{HubState, Server, server, PartingValue, is_present, entry_of, has_entry, phase_at}
-use Rattle.hub_lines.specs.Calls.{Ties, nothing}
-use Rattle.hub_notes.specs.Progress.{Progress, due_of, progress_at}
-use Rattle.hub_notes.specs.Calls.{Appends}
-use Rattle.hub_notes.specs.Table.{IsTable, TakesDue, table_of}
-use Rattle.hub_notes.proofs.NoteLemmas.{told_one}
-use Rattle.run_laws.proofs.AgreeLemmas.{told_is}
-use Rattle.run_laws.proofs.HubLemmas.{due_taken}
-use Rattle.run_kept.specs.Kept.{IntakeView}
-use Rattle.run_kept.specs.Giving.{event_for}
-use Rattle.run_kept.proofs.CallLemmas.{due_accepted, sound_closed, sound_serves}
-use Rattle.run_kept.proofs.GivingLemmas.{closed_given}
-use Rattle.loop_runner.specs.declared.intakes.Intakes.{Intakes}
-use Rattle.loop_runner.specs.Steps.{Every, Steps, is_kept_at, weight_of, weight_at, weight_below}
-use Rattle.loop_runner.specs.Keeps.{Beginning, KeptAll, meaning_of}
-use Rattle.loop_runner.specs.Moments.{HandsOut, ServesOrders}
 use Rattle.loop_runner.proofs.GrowLemmas.{grows_hub, grows_noted, grows_served, grows_then}
+use Rattle.loop_runner.proofs.OpenLemmas.{opens_none, opens_served, opens_then}
 use Rattle.loop_runner.proofs.KeepLemmas.{keep_on}
 use Rattle.loop_runner.proofs.ProgressLemmas.{Stays, Calm, stays_same, calm_same, kept_by, weight_by, present_at, kept_at, reading_after, phases_read}
-use Rattle.loop_runner.proofs.StepLemmas.{rises_same}
+use Rattle.loop_runner.proofs.StepLemmas.{onward_still}
 
 -- ---- sums over connections
 
@@ -85,7 +61,7 @@ module _ (p : PartingValue) (a b : HubState) (x : TakesDue (Some p) (table_of a)
 
   pub steps_taken : (net : NetState) (t : Option (List NoteValue)) → Appends nothing (server a net t) (server b net t) → (Ties (server a net t) → Ties (server b net t)) → IsTable (table_of b) → Steps Every (server a net t) (server b net t)
   steps_taken net t app ties table = record {
-    onward = record { grows = grows_hub a b net t; room = omega arith; passed = λ _. refl; faults = rises_same net.faults };
+    onward = onward_still a b net net t (grows_hub a b net t) (omega arith) (λ _. refl) (omega arith);
     config = app.lines.config;
     named = x.4.named;
     net_named = refl;
@@ -144,6 +120,7 @@ module _ {S : Type 0} (b : Beginning S) (parting : PartingValue) (intakes : Inta
       let m : Server = server s.hub s.net t in
       keep_on b a d now next views views None None
       (grows_then a s d (grows_hub hub s.hub s.net s.told) (grows_then s m d (grows_noted n s.hub s.hub s.net s.told t noted) (grows_served conn (b.said next given) m d served)))
+      (opens_then a m d (grows_served conn (b.said next given) m d served) (opens_none (n ∷ []) a m (told_one s.told t n noted) (λ c. refl)) (opens_served conn (b.said next given) m d served))
       (λ replies ns ms was tells told agree few x.
       let r = meaning_of b replies in
       let earlier = (grows_served conn (b.said next given) m d served).told ms told in

@@ -1,57 +1,13 @@
 -- What is kept where a step of a reader is taken.
-use Rattle.std.proofs.Common.{◌≡◌, ◌≢◌, ⊎_elim, ℕ, List, [], ◌∷◌, ◌++◌, Option, Some, None, Bool, true, false, is_some, ◌&&◌, refl, sym, ap, ◌∙◌, subst, append-nil}
-use Rattle.std.proofs.lemmas.Bool.{cases_eq}
-use Rattle.std.specs.List.{list_all}
-use Rattle.ws_kinds.specs.declared.kind.Kind.{Kind}
-use Rattle.ws_kinds.specs.declared.note.Phase.{Phase}
-use Rattle.ws_kinds.specs.declared.note.Phase.TheVariants.{Head, Open, Leaving, Ending, Gone}
-use Rattle.ws_kinds.specs.ConfigValue.{ConfigValue}
+use Rattle.loop_runner.proofs.Below.{◌≡◌, ◌≢◌, ⊎_elim, ℕ, List, [], ◌∷◌, ◌++◌, Option, Some, None, Bool, true, false, is_some, ◌&&◌, refl, sym, ap, ◌∙◌, subst, append-nil, cases_eq, list_all, Kind, Phase, Head, Open, Leaving, Ending, Gone, ConfigValue, NoteValue, EventValue, OrderValue, IsNoted, Pong, Event, Item, whole, close_item, RouteTable, Reader, read, is_frame_heard, is_open, phase, world, is_reading, sound_one, Server, server, is_gone, phase_at, only, served, Proceeds, progress_at, IsTable, table_of, has_frames, clash, told_one, Sends, Notes, Agrees, ReaderView, IsRead, told_is, agrees_told_phase, agrees_hub_phase, AreSound, is_inner, Shows, IntakeView, RestsAt, Kept, event_for, shows_sound, shows_told, sound_proceed, sound_call, sound_shown, sound_serves, shut_kept, message_given, stepped_kept, passed_kept, ping_kept, pong_kept, close_kept, failure_kept, Beginning, Holds, meaning_of, view_by, view_of, with_view, HasFrames, ServesOrders, KeepsOne, is_opened}
 use Rattle.ws_kinds.specs.NoteValue as note
-use Rattle.ws_kinds.specs.NoteValue.{NoteValue}
 use Rattle.ws_kinds.specs.EventValue as event
-use Rattle.ws_kinds.specs.EventValue.{EventValue}
-use Rattle.ws_kinds.specs.OrderValue.{OrderValue}
-use Rattle.ws_kinds.specs.Watch.{IsNoted}
-use Rattle.wire_meaning.specs.declared.frame.Opcode.TheVariants.{Pong}
 use Rattle.wire_meaning.specs.Event as wire
-use Rattle.wire_meaning.specs.Event.{Event}
-use Rattle.wire_meaning.specs.Answer.{Item, whole, close_item}
-use Rattle.route_table.specs.Table.{RouteTable}
-use Rattle.frame_reader.specs.declared.reader.Reader.{Reader}
 use Rattle.run_meaning.specs.Server as run
-use Rattle.run_meaning.specs.Life.{read, is_frame_heard}
-use Rattle.run_meaning.specs.Lines.{is_open, phase, world}
-use Rattle.run_meaning.specs.Settled.{is_reading}
-use Rattle.run_meaning.proofs.Singles.{sound_one}
-use Rattle.hub_lines.specs.State.{Server, server, is_gone, phase_at}
-use Rattle.hub_lines.specs.Calls.{only, served}
-use Rattle.hub_notes.specs.Calls.{Proceeds}
-use Rattle.hub_notes.specs.Progress.{progress_at}
-use Rattle.hub_notes.specs.Table.{IsTable, table_of}
-use Rattle.hub_notes.specs.Answers.{has_frames}
-use Rattle.hub_notes.proofs.BoolLemmas.{clash}
-use Rattle.hub_notes.proofs.NoteLemmas.{told_one}
-use Rattle.hub_core.specs.Sends.{Sends, Notes}
-use Rattle.run_laws.specs.Agrees.{Agrees}
-use Rattle.run_laws.specs.Readers.{ReaderView, IsRead}
-use Rattle.run_laws.proofs.AgreeLemmas.{told_is}
-use Rattle.run_laws.proofs.HubLemmas.{agrees_told_phase, agrees_hub_phase}
-use Rattle.run_kept.specs.Sounds.{AreSound}
-use Rattle.run_kept.specs.Tests.{is_inner}
-use Rattle.run_kept.specs.Known.{Shows}
-use Rattle.run_kept.specs.Kept.{IntakeView, RestsAt, Kept}
-use Rattle.run_kept.specs.Giving.{event_for}
-use Rattle.run_kept.proofs.KnownLemmas.{shows_sound, shows_told}
-use Rattle.run_kept.proofs.CallLemmas.{sound_proceed, sound_call, sound_shown, sound_serves}
-use Rattle.run_kept.proofs.Resting.{shut_kept}
-use Rattle.run_kept.proofs.GivingLemmas.{message_given}
-use Rattle.run_kept.proofs.ReadingLemmas.{stepped_kept, passed_kept, ping_kept, pong_kept, close_kept, failure_kept}
-use Rattle.loop_runner.specs.Keeps.{Beginning, Holds, meaning_of, view_by, view_of, with_view}
-use Rattle.loop_runner.specs.Steps.{HasFrames}
-use Rattle.loop_runner.specs.Moments.{ServesOrders, KeepsOne}
 use Rattle.loop_runner.proofs.ProgressLemmas.{phase_read}
 use Rattle.loop_runner.proofs.GrowLemmas.{grows_makes, grows_proceeds, grows_served, grows_then, grows_noted}
-use Rattle.loop_runner.proofs.KeepLemmas.{keep_on, keep_notes}
+use Rattle.loop_runner.proofs.OpenLemmas.{opens_none, opens_sent, opens_served, opens_then}
+use Rattle.loop_runner.proofs.KeepLemmas.{keep_there, keep_on, keep_notes}
 use Rattle.loop_runner.proofs.ViewLemmas.{with_same, same_but, view_read}
 
 -- ---- notes
@@ -123,9 +79,8 @@ module _ {S : Type 0} (b : Beginning S) (c route : ℕ) (param : List ℕ) where
   -- no frames are read of it
   pub keep_rest : (reader : Reader) (s : Server) (now : S) → HasFrames (phase_at s.hub c) reader → has_frames (phase_at s.hub c) ≡ false → KeepsOne b c (Some c) None (view_of reader route param) (view_of reader route param) s now s now
   keep_rest reader s now can frames = record {
-    kept = λ views is old ns told tells replies agree few.
+    kept = λ views is. keep_there b s now views (with_view c (view_of reader route param) views) (Some c) None (λ replies ns h.
         let r = meaning_of b replies in
-        let h = old ns told tells replies agree few in
         let later = with_view c (view_of reader route param) views in
         let k = shut_kept r b.config b.table ns s now views later (Some c) h.kept (λ d _. with_same c (view_of reader route param) views is d) in
         let out : (p : Phase) → has_frames (Some p) ≡ true → is_gone p ≡ false → phase r ns c ≡ Some p → ⊥ =
@@ -135,7 +90,7 @@ module _ {S : Type 0} (b : Beginning S) (c route : ℕ) (param : List ℕ) where
               (λ at. subst (λ (z : Option Phase). HasFrames z reader) (agrees_hub_phase (world r ns) ns s k.agrees c Head refl at) can) (no_frames (phase r ns c) (out Open refl refl) (out Leaving refl refl)));
           sound = h.sound;
           whole = h.whole;
-        };
+        });
   }
     where
       no_frames : (p : Option Phase) → (p ≡ Some Open → ⊥) → (p ≡ Some Leaving → ⊥) → has_frames p ≡ false
@@ -153,42 +108,38 @@ module _ {S : Type 0} (b : Beginning S) (c route : ℕ) (param : List ℕ) where
     -- nothing was told
     pub keep_more : has_frames (phase_at a.hub c) ≡ true → IsRead before [] after → Becomes None a
     keep_more frames reads = record {
-      kept = λ views is old ns told tells replies agree few.
-          let h = old ns told tells replies agree few in
-          record {
-            kept = stepped_kept (meaning_of b replies) b.config b.table ns c a now views (with_view c (view_by after route param) views) h.kept frames (same_but c route param before after views is) (view_read c route param before after views is [] reads);
-            sound = h.sound;
-            whole = h.whole;
-          };
+      kept = λ views is. keep_there b a now views (with_view c (view_by after route param) views) (Some c) None (λ replies ns h. record {
+        kept = stepped_kept (meaning_of b replies) b.config b.table ns c a now views (with_view c (view_by after route param) views) h.kept frames (same_but c route param before after views is) (view_read c route param before after views is [] reads);
+        sound = h.sound;
+        whole = h.whole;
+      });
     }
 
     -- a message, a ping or a pong was passed over
     pub keep_passed : (e : Event) → phase_at a.hub c ≡ Some Leaving → is_frame_heard (read e) ≡ true → IsRead before (e ∷ []) after → Becomes (Some c) a
     keep_passed e at frame reads = record {
-      kept = λ views is old ns told tells replies agree few.
-          let h = old ns told tells replies agree few in
-          record {
-            kept = passed_kept (meaning_of b replies) b.config b.table ns c e a now views (with_view c (view_by after route param) views) h.kept at (same_but c route param before after views is)
-                (view_read c route param before after views is (e ∷ []) reads) frame;
-            sound = h.sound;
-            whole = h.whole;
-          };
+      kept = λ views is. keep_there b a now views (with_view c (view_by after route param) views) (Some c) (Some c) (λ replies ns h. record {
+        kept = passed_kept (meaning_of b replies) b.config b.table ns c e a now views (with_view c (view_by after route param) views) h.kept at (same_but c route param before after views is)
+            (view_read c route param before after views is (e ∷ []) reads) frame;
+        sound = h.sound;
+        whole = h.whole;
+      });
     }
 
     -- it was noted, and what it sends was put
-    keep_sent : (n : NoteValue) (f : ℕ → List Item) (d : Server) (x : Sends c (n ∷ []) f a d) → is_inner n ≡ true
+    keep_sent : (n : NoteValue) (f : ℕ → List Item) (d : Server) (x : Sends c (n ∷ []) f a d) → is_inner n ≡ true → ((k : ℕ) → is_opened k n ≡ false)
         → ((replies : ℕ → List ℕ) (ns ms : List NoteValue) (views : ℕ → IntakeView) → views c ≡ view_by before route param → d.told ≡ Some ms → Holds b replies ns a now views (Some c)
         → (ms ≡ ns ++ n ∷ x.proceeds.sending) × Kept (meaning_of b replies) b.config b.table ms d now (with_view c (view_by after route param) views) (Some c))
         → Becomes (Some c) d
-    keep_sent n f d x inner step = record {
-      kept = λ views is. keep_on b a d now now views (with_view c (view_by after route param) views) (Some c) (Some c) (grows_proceeds (n ∷ []) [] a d x.proceeds)
+    keep_sent n f d x inner unopened step = record {
+      kept = λ views is. keep_on b a d now now views (with_view c (view_by after route param) views) (Some c) (Some c) (grows_proceeds (n ∷ []) [] a d x.proceeds) (opens_sent n a d x.proceeds unopened)
           (λ replies ns ms was tells told agree few h.
           let k = step replies ns ms views is told h in
           record { kept = k.1; sound = sound_sends (meaning_of b replies) b.config ns ms n a d x.proceeds h.kept.agrees inner k.0 h.sound; whole = x.table });
     }
 
     pub keep_ping : (body : List ℕ) (d : Server) → phase_at a.hub c ≡ Some Open → IsRead before (wire.ping body ∷ []) after → Sends c (note.ping_got c body ∷ []) (only c (whole Pong body)) a d → Becomes (Some c) d
-    keep_ping body d at reads x = keep_sent (note.ping_got c body) (only c (whole Pong body)) d x refl (λ replies ns ms views is told h.
+    keep_ping body d at reads x = keep_sent (note.ping_got c body) (only c (whole Pong body)) d x refl (λ k. refl) (λ replies ns ms views is told h.
         ping_kept (meaning_of b replies) b.config b.table ns ms c body a d now views (with_view c (view_by after route param) views) x.proceeds h.kept h.whole x.table at
         (same_but c route param before after views is) (view_read c route param before after views is (wire.ping body ∷ []) reads) x.appends told)
 
@@ -196,7 +147,7 @@ module _ {S : Type 0} (b : Beginning S) (c route : ℕ) (param : List ℕ) where
     keep_pong body d at reads x = record {
       kept = λ views is.
           let later = with_view c (view_by after route param) views in
-          keep_notes b (note.pong_got c body ∷ []) a d now now views later (Some c) (Some c) (grows_makes (note.pong_got c body ∷ []) a d x.makes) x.makes.advances.told x.table
+          keep_notes b (note.pong_got c body ∷ []) a d now now views later (Some c) (Some c) (grows_makes (note.pong_got c body ∷ []) a d x.makes) x.makes.advances.told (λ k. refl) x.table
           (λ replies ns ms tells told h.
           let r = meaning_of b replies in
           let k = pong_kept r b.config b.table ns ms c body a d now views later h.kept h.whole x.table at
@@ -209,14 +160,14 @@ module _ {S : Type 0} (b : Beginning S) (c route : ℕ) (param : List ℕ) where
     -- the connection is then ending
     pub keep_close : (code : ℕ) (reason : List ℕ) (d : Server) → has_frames (phase_at a.hub c) ≡ true → IsRead before (wire.closed code reason ∷ []) after
         → Sends c (note.peer_close c code reason ∷ []) (served (is_open (phase_at a.hub c)) (only c (close_item code))) a d → Becomes (Some c) d
-    keep_close code reason d frames reads x = keep_sent (note.peer_close c code reason) (served (is_open (phase_at a.hub c)) (only c (close_item code))) d x refl (λ replies ns ms views is told h.
+    keep_close code reason d frames reads x = keep_sent (note.peer_close c code reason) (served (is_open (phase_at a.hub c)) (only c (close_item code))) d x refl (λ k. refl) (λ replies ns ms views is told h.
         let k = close_kept (meaning_of b replies) b.config b.table ns ms c code reason a d now views (with_view c (view_by after route param) views) x.proceeds h.kept h.whole x.table frames
         (same_but c route param before after views is) (view_read c route param before after views is (wire.closed code reason ∷ []) reads) x.appends told in
         (k.0, kept_done c k.1))
 
     pub keep_failed : (code : ℕ) (d : Server) → has_frames (phase_at a.hub c) ≡ true → IsRead before (wire.failed code ∷ []) after
         → Sends c (note.failed c code ∷ []) (served (is_open (phase_at a.hub c)) (only c (close_item code))) a d → Becomes (Some c) d
-    keep_failed code d frames reads x = keep_sent (note.failed c code) (served (is_open (phase_at a.hub c)) (only c (close_item code))) d x refl (λ replies ns ms views is told h.
+    keep_failed code d frames reads x = keep_sent (note.failed c code) (served (is_open (phase_at a.hub c)) (only c (close_item code))) d x refl (λ k. refl) (λ replies ns ms views is told h.
         let k = failure_kept (meaning_of b replies) b.config b.table ns ms c code a d now views (with_view c (view_by after route param) views) x.proceeds h.kept h.whole x.table frames
         (same_but c route param before after views is) (view_read c route param before after views is (wire.failed code ∷ []) reads) x.appends told in
         (k.0, kept_done c k.1))
@@ -232,6 +183,7 @@ module _ {S : Type 0} (b : Beginning S) (c route : ℕ) (param : List ℕ) where
           let mid = server a.hub a.net t in
           let later = with_view c (view_by after route param) views in
           keep_on b a d now next views later (Some c) (Some c) (grows_then a mid d (grows_noted n a.hub a.hub a.net a.told t noted) (grows_served c (b.said next given) mid d serves))
+          (opens_then a mid d (grows_served c (b.said next given) mid d serves) (opens_none (n ∷ []) a mid (told_one a.told t n noted) (λ k. refl)) (opens_served c (b.said next given) mid d serves))
           (λ replies ns ms was tells told agree few h.
           let r = meaning_of b replies in
           let k = message_given r b.config b.table ns ms c kind body given a mid d now next views later h.kept (agrees_told_phase (world r ns) ns a h.kept.agrees c Open refl at)

@@ -1,22 +1,6 @@
 -- What grows with each step.
-use Rattle.std.proofs.Common.{◌≡◌, ⊎_elim, ℕ, List, [], ◌∷◌, ◌++◌, take, Option, Some, None, true, refl, sym, ap, ◌∙◌, subst, append-nil, append_assoc}
-use Rattle.std.proofs.lemmas.Bool.{cases_eq}
-use Rattle.ws_kinds.specs.NoteValue.{NoteValue}
-use Rattle.ws_kinds.specs.OrderValue.{OrderValue}
-use Rattle.ws_kinds.specs.Watch.{IsNoted, AreNoted}
-use Rattle.link_trait.specs.NetState.{NetState}
-use Rattle.link_trait.specs.Net.{Nexts, Reads, NetGives, SameNet, Shuts}
-use Rattle.link_trait.specs.declared.net.NetRead.{NetRead}
+use Rattle.loop_runner.proofs.Below.{◌≡◌, ⊎_elim, ℕ, List, [], ◌∷◌, ◌++◌, take, Option, Some, None, true, refl, sym, ap, ◌∙◌, subst, append-nil, append_assoc, cases_eq, NoteValue, OrderValue, IsNoted, AreNoted, NetState, Nexts, Reads, NetGives, SameNet, Shuts, NetRead, NetEvent, HubState, Server, server, NetAfter, Advances, Proceeds, Makes, EndsTurn, told_one, told_none, Grows, ServesOrders}
 use Rattle.link_trait.specs.declared.net.NetRead.TheVariants as read
-use Rattle.link_trait.specs.declared.net.NetEvent.{NetEvent}
-use Rattle.hub_lines.specs.State.{HubState, Server, server}
-use Rattle.hub_notes.specs.NetAfter.{NetAfter}
-use Rattle.hub_notes.specs.Calls.{Advances, Proceeds}
-use Rattle.hub_notes.specs.Answers.{Makes}
-use Rattle.hub_notes.specs.Turns.{EndsTurn}
-use Rattle.hub_notes.proofs.NoteLemmas.{told_one, told_none}
-use Rattle.loop_runner.specs.Steps.{Grows}
-use Rattle.loop_runner.specs.Moments.{ServesOrders}
 
 abbrev Before : Option (List NoteValue) → List NoteValue → Type 0
 Before t after = (notes : List NoteValue) × (later : List NoteValue) × (t ≡ Some notes) × (after ≡ notes ++ later)

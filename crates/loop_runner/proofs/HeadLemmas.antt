@@ -1,32 +1,9 @@
 -- What becomes of a connection whose request is admitted or refused, and of one whose frames are read.
-use Rattle.std.proofs.Common.{◌≡◌, inl, inr, ℕ, List, [], ◌∷◌, ◌++◌, Option, Some, None, Bool, true, false, cond, ◌||◌, refl, sym, ap, ◌∙◌, subst}
-use Rattle.std.specs.List.{list_any}
-use Rattle.ws_kinds.specs.declared.note.Left.{Left}
-use Rattle.ws_kinds.specs.declared.note.Phase.{Phase}
-use Rattle.ws_kinds.specs.declared.note.Phase.TheVariants.{Head, Open, Leaving, Ending, Gone}
+use Rattle.loop_runner.proofs.Below.{◌≡◌, inl, inr, ℕ, List, [], ◌∷◌, ◌++◌, Option, Some, None, Bool, true, false, cond, ◌||◌, refl, sym, ap, ◌∙◌, subst, list_any, Left, Phase, Head, Open, Leaving, Ending, Gone, NoteValue, Item, Reader, has_ended, HasStepped, is_last, IsMore, moved, is_of, is_acceptance, unless_gone, is_reading, Server, phase_at, Progress, progress_at, progress_by, progress_after, has_frames, Advances, by_cases, clash, of_here, of_other, present_is_not_gone, unaccepted, Sends, IsDrained, IsTaken, Every, But, StaysOrLeaves, Steps, HasFrames, reading_at}
 use Rattle.ws_kinds.specs.NoteValue as note
-use Rattle.ws_kinds.specs.NoteValue.{NoteValue}
-use Rattle.wire_meaning.specs.Answer.{Item}
-use Rattle.frame_reader.specs.declared.reader.Reader.{Reader}
 use Rattle.frame_reader.specs.declared.step.Step.{Step}
 use Rattle.frame_reader.specs.declared.step.Step.TheVariants as step
-use Rattle.frame_reader.specs.Reader.{has_ended}
-use Rattle.frame_reader.specs.Step.{HasStepped, is_last, IsMore}
-use Rattle.run_meaning.specs.Lines.{moved}
-use Rattle.run_meaning.specs.Notes.{is_of, is_acceptance}
-use Rattle.run_meaning.specs.Orders.{unless_gone}
-use Rattle.run_meaning.specs.Settled.{is_reading}
-use Rattle.hub_lines.specs.State.{Server, phase_at}
-use Rattle.hub_notes.specs.Progress.{Progress, progress_at, progress_by, progress_after}
-use Rattle.hub_notes.specs.Answers.{has_frames}
-use Rattle.hub_notes.specs.Calls.{Advances}
-use Rattle.hub_notes.proofs.BoolLemmas.{by_cases, clash}
-use Rattle.hub_notes.proofs.TieLemmas.{present_is_not_gone, unaccepted}
-use Rattle.hub_core.specs.Sends.{Sends}
-use Rattle.hub_core.proofs.CallLemmas.{of_here, of_other}
-use Rattle.loop_runner.specs.Ready.{IsDrained, IsTaken}
-use Rattle.loop_runner.specs.Steps.{Every, But, StaysOrLeaves, Steps, HasFrames}
-use Rattle.loop_runner.proofs.ProgressLemmas.{begins_of, Calm, calm_notes, stays_notes, stays_or_leaves, phase_read, reading_at, read_present}
+use Rattle.loop_runner.proofs.ProgressLemmas.{Calm, calm_notes, stays_notes, stays_or_leaves, phase_read, read_present}
 use Rattle.loop_runner.proofs.StepLemmas.{accepts_none, begin_none, call_begins, steps_first, steps_then, steps_but}
 
 -- ---- a reader, in the phase of its connection

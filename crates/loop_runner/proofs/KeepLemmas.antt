@@ -1,35 +1,15 @@
 -- What is kept from step to step.
-use Rattle.std.proofs.Common.{◌≡◌, ◌<◌, ◌-◌, ◌^◌, ℕ, List, [], ◌++◌, Option, Some, None, true, false, length, sym, ap, ◌∙◌, subst, append-nil, append_assoc}
-use Rattle.ws_kinds.specs.NoteValue.{NoteValue}
-use Rattle.ws_kinds.specs.Watch.{AreNoted}
-use Rattle.ws_kinds.specs.declared.handler.Handler.{Ghosts as HandlerMeaning}
-use Rattle.link_trait.specs.NetState.{NetState}
-use Rattle.link_trait.specs.declared.net.NetEvent.{NetEvent}
-use Rattle.route_table.specs.Table.{RouteTable}
+use Rattle.loop_runner.proofs.Below.{◌≡◌, ◌<◌, ◌-◌, ◌^◌, ℕ, List, [], ◌++◌, Option, Some, None, true, false, length, sym, ap, ◌∙◌, subst, append-nil, append_assoc, NoteValue, AreNoted, HandlerMeaning, NetState, RouteTable, plain, AreAdmitted, AreReplies, is_opened_in, told_is, admitted_longer, replies_before, Server, IsTable, table_of, by_cases, clash, IntakeView, Kept, AreSound, shut_kept, Intakes, Every, Grows, Beginning, Holds, KeptAll, AreFew, meaning_of, with_view, ForNotes, ForReplies, Moment, IsKeptThen, Keeps, KeepsOn, KeepsOne}
 use Rattle.run_meaning.specs.Server as run
-use Rattle.run_meaning.specs.Lines.{plain}
-use Rattle.run_meaning.specs.Replies.{AreReplies}
-use Rattle.run_laws.proofs.AgreeLemmas.{told_is}
-use Rattle.run_laws.proofs.Replying.{replies_before}
-use Rattle.hub_lines.specs.State.{Server}
-use Rattle.hub_notes.specs.Table.{IsTable, table_of}
-use Rattle.hub_notes.proofs.BoolLemmas.{by_cases, clash}
-use Rattle.run_kept.specs.Kept.{IntakeView, Kept}
-use Rattle.run_kept.specs.Sounds.{AreSound}
-use Rattle.run_kept.proofs.Resting.{shut_kept}
-use Rattle.loop_runner.specs.declared.intakes.Intakes.{Intakes}
-use Rattle.loop_runner.specs.Steps.{Every, Grows}
-use Rattle.loop_runner.specs.Keeps.{Beginning, Holds, KeptAll, AreFew, AreViews, meaning_of, with_view}
-use Rattle.loop_runner.specs.Moments.{Moment, IsKeptThen, Keeps, KeepsOn, KeepsOne}
-use Rattle.loop_runner.proofs.GrowLemmas.{grows_then}
+use Rattle.loop_runner.proofs.OpenLemmas.{OpensNobody, opens_none}
 use Rattle.loop_runner.proofs.StepLemmas.{steps_then}
 use Rattle.loop_runner.proofs.ViewLemmas.{with_here, with_same, with_twice, views_of, are_views_of}
 
 pub same_notes : (xs ys : List NoteValue) → Some xs ≡ Some ys → xs ≡ ys
 same_notes xs ys e = cc
 
-few_before : {S : Type 0} (r : run.Server S) (ns later ms : List NoteValue) → ms ≡ ns ++ later → AreFew r ms → AreFew r ns
-few_before r ns later ms whole few = λ front behind is c.
+pub few_front : {S : Type 0} (r : run.Server S) (ns later ms : List NoteValue) → ms ≡ ns ++ later → AreFew r ms → AreFew r ns
+few_front r ns later ms whole few = λ front behind is c.
     few front (behind ++ later) (whole ∙ ap (λ (z : List NoteValue). z ++ later) is ∙ append_assoc front behind later) c
 
 -- the items of all these notes are few
@@ -58,34 +38,57 @@ module _ {S : Type 0} (b : Beginning S) where
         all = v.3;
         tells = was;
         agree = replies_before b.table v.0 v.1 a.net.given d.net.given replies (subst (λ (z : List NoteValue). AreReplies b.table z d.net.given replies) v.3 agree) (grows.given was);
-        few = few_before (meaning_of b replies) v.0 v.1 ms v.3 few;
+        few = few_front (meaning_of b replies) v.0 v.1 ms v.3 few;
       }
 
+  -- who was admitted stays so, where nobody else is opened
+  pub admitted_on : (a d : Server) → Grows a d → OpensNobody a d → ForNotes b a (λ ns. AreAdmitted b.table ns a.net.given) → ForNotes b d (λ ms. AreAdmitted b.table ms d.net.given)
+  admitted_on a d grows nobody old ms told tells few c opened =
+      let v = grows.told ms told in
+      let was : a.net.tells ≡ true = sym grows.tells ∙ tells in
+      let admitted = old v.0 v.2 was (λ replies. few_front (meaning_of b replies) v.0 v.1 ms v.3 (few replies)) in
+      admitted_longer b.table v.0 a.net.given d.net.given (grows.given was) admitted c (nobody v.0 ms v.2 told c opened)
+
   -- what holds for notes and replies goes on to hold for those of a later server
-  pub keep_on : (a d : Server) (now next : S) (views later : ℕ → IntakeView) (from to : Option ℕ) → Grows a d
+  pub holds_on : (a d : Server) (now next : S) (views later : ℕ → IntakeView) (from to : Option ℕ) → Grows a d
+      → ((replies : ℕ → List ℕ) (ns ms : List NoteValue) → a.told ≡ Some ns → a.net.tells ≡ true → d.told ≡ Some ms → AreReplies b.table ms d.net.given replies → AreFew (meaning_of b replies) ns
+      → Holds b replies ns a now views from → Holds b replies ms d next later to)
+      → KeptAll b a now views from → ForReplies b d (λ replies ms. Holds b replies ms d next later to)
+  holds_on a d now next views later from to grows step old ms told tells replies agree few =
+      let x = earlier a d grows replies ms told tells agree few in
+      step replies x.notes ms x.told x.tells told agree x.few (old.holds x.notes x.told x.tells replies x.agree x.few)
+
+  -- the same of all that is kept, where nobody is opened
+  pub keep_on : (a d : Server) (now next : S) (views later : ℕ → IntakeView) (from to : Option ℕ) → Grows a d → OpensNobody a d
       → ((replies : ℕ → List ℕ) (ns ms : List NoteValue) → a.told ≡ Some ns → a.net.tells ≡ true → d.told ≡ Some ms → AreReplies b.table ms d.net.given replies → AreFew (meaning_of b replies) ns
       → Holds b replies ns a now views from → Holds b replies ms d next later to)
       → KeptAll b a now views from → KeptAll b d next later to
-  keep_on a d now next views later from to grows step old ms told tells replies agree few =
-      let x = earlier a d grows replies ms told tells agree few in
-      step replies x.notes ms x.told x.tells told agree x.few (old x.notes x.told x.tells replies x.agree x.few)
+  keep_on a d now next views later from to grows nobody step old = record {
+    admitted = admitted_on a d grows nobody old.admitted;
+    holds = holds_on a d now next views later from to grows step old;
+  }
 
   -- the same, where it is known what was noted
-  pub keep_notes : (made : List NoteValue) (a d : Server) (now next : S) (views later : ℕ → IntakeView) (from to : Option ℕ) → Grows a d → AreNoted a.told made d.told → IsTable (table_of d.hub)
+  pub keep_notes : (made : List NoteValue) (a d : Server) (now next : S) (views later : ℕ → IntakeView) (from to : Option ℕ) → Grows a d → AreNoted a.told made d.told
+      → ((c : ℕ) → is_opened_in c made ≡ false) → IsTable (table_of d.hub)
       → ((replies : ℕ → List ℕ) (ns ms : List NoteValue) → a.net.tells ≡ true → d.told ≡ Some ms → Holds b replies ns a now views from
       → Kept (meaning_of b replies) b.config b.table (ns ++ made) d next later to × AreSound (meaning_of b replies) b.config (ns ++ made))
       → KeptAll b a now views from → KeptAll b d next later to
-  keep_notes made a d now next views later from to grows noted whole step = keep_on a d now next views later from to grows
+  keep_notes made a d now next views later from to grows noted none whole step = keep_on a d now next views later from to grows (opens_none made a d noted none)
       (λ replies ns ms was tells told agree few old.
       let is : ns ++ made ≡ ms = same_notes (ns ++ made) ms (sym (told_is ns made ms a.told d.told noted was told) ∙ told) in
       let got = step replies ns ms tells told old in
       subst (λ (z : List NoteValue). Holds b replies z d next later to) is (record { kept = got.0; sound = got.1; whole = whole }))
 
+  -- the same server, with other views of the intakes
+  pub keep_there : (s : Server) (now : S) (views later : ℕ → IntakeView) (from to : Option ℕ) → ((replies : ℕ → List ℕ) (ns : List NoteValue) → Holds b replies ns s now views from → Holds b replies ns s now later to)
+      → KeptAll b s now views from → KeptAll b s now later to
+  keep_there s now views later from to step old = record { admitted = old.admitted; holds = λ ns told tells replies agree few. step replies ns (old.holds ns told tells replies agree few) }
+
   -- views of the intakes that are the same
   pub keep_views : (s : Server) (now : S) (views later : ℕ → IntakeView) (reading : Option ℕ) → ((conn : ℕ) → later conn ≡ views conn) → KeptAll b s now views reading → KeptAll b s now later reading
-  keep_views s now views later reading same old ns told tells replies agree few =
-      let x = old ns told tells replies agree few in
-      record { kept = shut_kept (meaning_of b replies) b.config b.table ns s now views later reading x.kept (λ c _. same c); sound = x.sound; whole = x.whole }
+  keep_views s now views later reading same = keep_there s now views later reading reading
+      (λ replies ns x. record { kept = shut_kept (meaning_of b replies) b.config b.table ns s now views later reading x.kept (λ c _. same c); sound = x.sound; whole = x.whole })
 
   -- of one connection, one step after another
   pub keep_one_same : (c : ℕ) (reading : Option ℕ) (view : IntakeView) (s : Server) (now : S) → KeepsOne b c reading reading view view s now s now
@@ -113,4 +116,4 @@ keeps_on_then r s t a b d x y = record {
 pub where_told : {H : Type 0} {handler : HandlerMeaning H} (b : Beginning handler.State) (before : NetState) (intakes : Intakes) (m : Moment handler) (vs : ℕ → IntakeView) → m.server.net.tells ≡ before.tells
     → (before.tells ≡ true → IsKeptThen intakes m b) → IsKeptThen intakes m b
 where_told b before intakes m vs same told = by_cases before.tells told
-    (λ (no : before.tells ≡ false). (views_of intakes vs, are_views_of intakes vs, λ notes is tells. clash before.tells no (sym same ∙ tells)))
+    (λ (no : before.tells ≡ false). (views_of intakes vs, are_views_of intakes vs, record { admitted = λ notes is tells. clash before.tells no (sym same ∙ tells); holds = λ notes is tells. clash before.tells no (sym same ∙ tells) }))

@@ -2,11 +2,13 @@ pub mod IntakeLemmas
 pub mod ViewLemmas
 pub mod GrowLemmas
 pub mod ProgressLemmas
+pub mod NotedLemmas
 pub mod StepLemmas
 pub mod EventLemmas
 pub mod HeadLemmas
 pub mod RunningLemmas
 pub mod TidyLemmas
+pub mod OpenLemmas
 pub mod KeepLemmas
 pub mod CloseLemmas
 pub mod ArriveLemmas
@@ -19,3 +21,5 @@ pub mod TurnKeeps
 pub mod RightLemmas
 pub mod ThroughoutLemmas
 pub mod TurningLemmas
+pub mod Below
+pub mod All

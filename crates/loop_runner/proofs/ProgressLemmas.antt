@@ -1,24 +1,8 @@
 -- What steps make of a connection that was accepted before them.
-use Rattle.std.proofs.Common.{◌≡◌, ◌≤◌, ◌+◌, inl, inr, ℕ, List, [], ◌∷◌, Option, Some, None, Bool, true, false, cond, not, is_some, nat_eq, ◌&&◌, ◌||◌, refl, sym, ap, ◌∙◌, subst, arith}
-use Rattle.std.specs.List.{list_any}
-use Rattle.ws_kinds.specs.declared.note.Phase.{Phase}
-use Rattle.ws_kinds.specs.declared.note.Phase.TheVariants.{Head, Open, Leaving, Ending, Gone}
+use Rattle.loop_runner.proofs.Below.{◌≡◌, ◌≤◌, ◌+◌, inl, inr, ℕ, List, [], ◌∷◌, Option, Some, None, Bool, true, false, cond, not, is_some, nat_eq, ◌&&◌, ◌||◌, refl, sym, ap, ◌∙◌, subst, arith, list_any, Phase, Head, Open, Leaving, Ending, Gone, NoteValue, OrderValue, send, subscribe, unsubscribe, publish, close, is_of, is_acceptance, is_gone_in, moved, closing, is_open, leaves_open, cause_of, topics_left, with_topic, without_topic, unless_gone, is_reading, Step, by_note, by_order, notes_of, of_notes, notes_of-notes, HubState, entry_at, is_present, has_entry, phase_at, Progress, due_at, progress_at, progress_by, progress_after, progress_after_all, progress_obeys, progress_by_steps, by_cases, clash, or_left, or_right, and_true, stays_live, StaysOrLeaves, weight_of, is_kept_at, open_shown, steps_of_notes, own, other, reading_at}
 use Rattle.ws_kinds.specs.NoteValue as note
-use Rattle.ws_kinds.specs.NoteValue.{NoteValue}
-use Rattle.ws_kinds.specs.OrderValue.{OrderValue, send, subscribe, unsubscribe, publish, close}
-use Rattle.run_meaning.specs.Notes.{is_of, is_gone, is_acceptance}
-use Rattle.run_meaning.specs.Counts.{is_gone_in}
-use Rattle.run_meaning.specs.Lines.{moved, closing, is_open, leaves_open, cause_of, topics_left, with_topic, without_topic}
-use Rattle.run_meaning.specs.Orders.{unless_gone}
-use Rattle.run_meaning.specs.Settled.{is_reading}
-use Rattle.run_meaning.specs.Steps.{Step, by_note, by_order, notes_of, of_notes}
-use Rattle.run_meaning.proofs.NoteLemmas.{notes_of-notes}
+use Rattle.run_meaning.specs.Notes.{is_gone}
 use Rattle.hub_lines.specs.State as hub
-use Rattle.hub_lines.specs.State.{HubState, entry_at, is_present, has_entry, phase_at}
-use Rattle.hub_notes.specs.Progress.{Progress, due_at, progress_at, progress_by, progress_after, progress_after_all, progress_obeys, progress_by_step, progress_by_steps}
-use Rattle.hub_notes.proofs.BoolLemmas.{by_cases, clash, or_left, or_right, and_true, stays_live}
-use Rattle.hub_lines.proofs.EntryLemmas.{present_entry}
-use Rattle.loop_runner.specs.Steps.{StaysOrLeaves, weight_of, is_kept_at}
 
 -- the note says that a connection was accepted or is open
 abbrev pub begins : NoteValue → Bool
@@ -111,14 +95,6 @@ moved_kept None due (note.accepted c) b k = clash true b refl
 moved_kept None due _ b k = k
 moved_kept (Some phase) due _ b k = refl
 
-open_shown : (p : Option Phase) → is_open (unless_gone p) ≡ is_open p
-open_shown None = refl
-open_shown (Some Head) = refl
-open_shown (Some Open) = refl
-open_shown (Some Leaving) = refl
-open_shown (Some Ending) = refl
-open_shown (Some Gone) = refl
-
 open_reads : (p : Option Phase) → is_open p ≡ true → is_reading p ≡ true
 open_reads (Some Open) e = refl
 open_reads None e = clash false refl e
@@ -140,12 +116,6 @@ less_weight true false None x h = omega arith
 less_weight true false (Some due) x h = omega arith
 less_weight false true due x h = clash false refl (h refl)
 less_weight false false due x h = omega arith
-
-own : (c : ℕ) (n : NoteValue) (p : Progress) → is_of c n ≡ true → progress_after c n p ≡ progress_by n p
-own c n p e = ap (λ (z : Bool). cond z (progress_by n p) p) e
-
-other : (c : ℕ) (n : NoteValue) (p : Progress) → is_of c n ≡ false → progress_after c n p ≡ p
-other c n p e = ap (λ (z : Bool). cond z (progress_by n p) p) e
 
 -- what holds of a connection after its own notes holds after all, where it holds for one that is the same
 by_note_of : (R : Progress → Type 0) (c : ℕ) (n : NoteValue) (p : Progress) → R p → (is_of c n ≡ true → R (progress_by n p)) → R (progress_after c n p)
@@ -238,11 +208,6 @@ stays_all c xs p none = by_all Stays is_acceptance c stays_same stays_then (λ n
 calm_all : (c : ℕ) (xs : List Step) (p : Progress) → list_any (begins_of c) (notes_of xs) ≡ false → Calm p (progress_by_steps c xs p)
 calm_all c xs p none = by_all Calm (begins_of c) c calm_same calm_then (λ n q b. calm_note c n q b) (λ from o q. calm_order from c o q) xs p none
 
--- notes as steps
-pub steps_of_notes : (c : ℕ) (ns : List NoteValue) (p : Progress) → progress_by_steps c (of_notes ns) p ≡ progress_after_all c ns p
-steps_of_notes c [] p = refl
-steps_of_notes c (n ∷ ns) p = steps_of_notes c ns (progress_after c n p)
-
 pub stays_notes : (c : ℕ) (ns : List NoteValue) (p : Progress) → list_any is_acceptance ns ≡ false → Stays p (progress_after_all c ns p)
 stays_notes c ns p none = subst (Stays p) (steps_of_notes c ns p) (stays_all c (of_notes ns) p (ap (list_any is_acceptance) (notes_of-notes ns) ∙ none))
 
@@ -299,25 +264,6 @@ shown_all c (by_order from o ∷ xs) p none =
     shown_all c xs (progress_obeys from c o p) none ∙ ap (λ (z : Bool). z && not (is_gone_in c (notes_of xs))) (shown_order from c o p)
 
 -- ---- in a hub
-
-pub not_true : (b : Bool) → not b ≡ true → b ≡ false
-not_true true e = sym e
-not_true false e = refl
-
-reading_by : (has : Bool) (phase : Phase) → (not (hub.is_gone phase) ≡ true → has ≡ true) → is_reading (cond has (Some phase) None) ≡ is_reading (unless_gone (Some phase))
-reading_by true Head h = refl
-reading_by true Open h = refl
-reading_by true Leaving h = refl
-reading_by true Ending h = refl
-reading_by true Gone h = refl
-reading_by false Head h = clash false refl (h refl)
-reading_by false Open h = clash false refl (h refl)
-reading_by false Leaving h = clash false refl (h refl)
-reading_by false Ending h = refl
-reading_by false Gone h = refl
-
-pub reading_at : (h : HubState) (c : ℕ) → is_reading (phase_at h c) ≡ is_reading (progress_at h c).phase
-reading_at h c = reading_by (has_entry h.entries c) (entry_at h c).phase (present_entry h.entries c)
 
 phase_by : (has : Bool) (phase : Phase) → is_reading (cond has (Some phase) None) ≡ true → cond has (Some phase) None ≡ unless_gone (Some phase)
 phase_by true Head r = refl

@@ -1,43 +1,30 @@
 -- What is kept holds at first, and after a turn it is what the relation of a run asks for.
-use Rattle.std.proofs.Common.{◌≡◌, ◌<◌, ◌-◌, ◌^◌, ℕ, List, [], length, Option, Some, None, true, sym, ◌∙◌, subst}
-use Rattle.ws_kinds.specs.NoteValue.{NoteValue}
-use Rattle.link_trait.specs.NetState.{NetState}
-use Rattle.link_trait.specs.Net.{Nexts, is_rest}
-use Rattle.link_trait.specs.declared.net.NetEvent.{NetEvent}
-use Rattle.hub_lines.specs.State.{HubState, Server, server}
-use Rattle.hub_lines.specs.Calls.{Ties, Settled, nothing}
-use Rattle.hub_notes.specs.Calls.{Appends}
-use Rattle.hub_notes.specs.Fronts.{RingsWait}
-use Rattle.hub_notes.specs.Progress.{due_at}
-use Rattle.hub_notes.specs.Turns.{EndsTurn}
-use Rattle.hub_notes.specs.Table.{IsTable, table_of}
-use Rattle.run_kept.specs.Kept.{IntakeView}
-use Rattle.run_kept.specs.Ends.{AreThere}
-use Rattle.run_kept.proofs.PlaceLemmas.{sound_none}
-use Rattle.run_kept.proofs.RightLemmas.{kept_right_there}
-use Rattle.run_kept.proofs.TurnLemmas.{rest_links, turn_settled_there}
-use Rattle.run_kept.proofs.TurningLemmas.{kept_first}
-use Rattle.loop_runner.specs.Ready.{IsAsked}
-use Rattle.loop_runner.specs.Keeps.{Beginning, Holds, KeptAll, IsRight, IsSettled, meaning_of}
+use Rattle.loop_runner.proofs.Below.{◌≡◌, ◌<◌, ◌-◌, ◌^◌, ℕ, List, [], length, Option, Some, None, true, false, refl, sym, ◌∙◌, subst, NoteValue, NetState, Nexts, is_rest, NetEvent, AreAdmitted, texts_exist, clash, HubState, Server, server, Ties, Settled, nothing, Appends, RingsWait, due_at, EndsTurn, IsTable, table_of, IntakeView, AreThere, sound_none, kept_right_there, rest_links, turn_settled_there, kept_first, IsAsked, Beginning, Holds, KeptAll, IsRight, IsSettled, meaning_of}
 use Rattle.loop_runner.proofs.GrowLemmas.{grows_ended, grows_next, grows_then}
 use Rattle.loop_runner.proofs.KeepLemmas.{earlier, few_of, same_notes}
 
 module _ {S : Type 0} (b : Beginning S) where
   pub right_after : (s : Server) (now : S) (views : ℕ → IntakeView) → KeptAll b s now views None → Settled s.hub → IsRight b s now
-  right_after s now views kept settled notes told tells replies agree few =
-      let holds = kept notes told tells replies agree few in
-      kept_right_there (meaning_of b replies) b.config b.table notes s now views holds.kept settled (few_of (meaning_of b replies) notes few) holds.sound
+  right_after s now views kept settled = record {
+    texts = λ notes told tells few. texts_exist b.table notes s.net.given (kept.admitted notes told tells few);
+    right = λ notes told tells replies agree few.
+        let holds = kept.holds notes told tells replies agree few in
+        kept_right_there (meaning_of b replies) b.config b.table notes s now views holds.kept settled (few_of (meaning_of b replies) notes few) holds.sound;
+  }
 
   -- before anything was noted
   pub kept_at_first : (s : Server) (now : S) (views : ℕ → IntakeView) → s.hub.entries ≡ [] → s.hub.pairs ≡ [] → s.hub.partings ≡ [] → s.hub.config ≡ b.config → IsTable (table_of s.hub) → s.told ≡ Some [] → s.net.passed ≡ []
       → now ≡ b.start → KeptAll b s now views None
-  kept_at_first s now views entries pairs partings configured whole none passed begun notes told tells replies agree few =
-      subst (λ (z : List NoteValue). Holds b replies z s now views None) (same_notes [] notes (sym none ∙ told))
-      (record {
-        kept = kept_first (meaning_of b replies) b.config b.table s now views entries pairs partings tells none passed begun configured;
-        sound = sound_none (meaning_of b replies) b.config;
-        whole = whole;
-      })
+  kept_at_first s now views entries pairs partings configured whole none passed begun = record {
+    admitted = λ notes told tells few.
+        subst (λ (z : List NoteValue). AreAdmitted b.table z s.net.given) (same_notes [] notes (sym none ∙ told)) (λ c opened. clash false refl opened);
+    holds = λ notes told tells replies agree few. subst (λ (z : List NoteValue). Holds b replies z s now views None) (same_notes [] notes (sym none ∙ told))
+        (record {
+          kept = kept_first (meaning_of b replies) b.config b.table s now views entries pairs partings tells none passed begun configured;
+          sound = sound_none (meaning_of b replies) b.config;
+          whole = whole;
+        });
+  }
 
   -- the end of a turn settles all, where no Closed event was due as it began
   pub settled_ended : (h : HubState) (before net : NetState) (t : Option (List NoteValue)) (now : S) (views : ℕ → IntakeView) (answer : NetEvent) (d : Server)
@@ -47,7 +34,7 @@ module _ {S : Type 0} (b : Beginning S) where
   settled_ended h before net t now views answer d rest next few ends app whole settled ties waits asked none kept there notes told tells replies agree items =
       let a : Server = server h before t in
       let x = earlier b a d (grows_then a (server h net t) d (grows_next answer h before net t next) (grows_ended (server h net t) d ends)) replies notes told tells agree items in
-      let holds = kept x.notes x.told x.tells replies x.agree x.few in
+      let holds = kept.holds x.notes x.told x.tells replies x.agree x.few in
       let links = rest_links answer before net rest next.event in
       turn_settled_there answer a d net rest next ends (meaning_of b replies) b.config b.table x.notes notes now views holds.kept few app told holds.whole whole settled ties
       (λ c here some. sym (links.writable c) ∙ waits c here some)

@@ -1,25 +1,8 @@
 -- What holds within a turn, step after step.
-use Rattle.std.proofs.Common.{◌≡◌, ◌≢◌, ◌≤◌, ◌<◌, ◌-◌, ◌^◌, inl, inr, ⊎_elim, ℕ, List, [], Option, Some, None, Bool, true, false, is_some, refl, sym, ap, ◌∙◌, subst, arith}
-use Rattle.std.proofs.lemmas.Bool.{cases_eq}
-use Rattle.ws_kinds.specs.declared.note.Phase.{Phase}
-use Rattle.ws_kinds.specs.declared.note.Phase.TheVariants.{Head, Open, Leaving, Ending, Gone}
-use Rattle.ws_kinds.specs.NoteValue.{NoteValue}
-use Rattle.link_trait.specs.NetState.{NetState}
-use Rattle.link_trait.specs.Net.{Frees}
-use Rattle.run_meaning.specs.Settled.{is_reading}
-use Rattle.frame_reader.specs.declared.reader.Reader.{Reader}
+use Rattle.loop_runner.proofs.Below.{◌≡◌, ◌≤◌, inl, inr, ⊎_elim, ℕ, List, [], ◌∷◌, length, Option, Some, None, true, false, not, is_some, refl, sym, ap, ◌∙◌, subst, arith, cases_eq, Phase, Head, Open, Leaving, Ending, Gone, NoteValue, NetState, Frees, is_reading, Reader, HubState, Entry, Server, server, entry_of, has_entry, is_gone, phase_at, ring_at, due_at, Settled, by_cases, clash, or_right, IsTable, table_of, Intake, Intakes, max_of, intake_at, is_admitted, ChangesIntake, SameIntakes, IsTaken, IsAsked, Ready, Every, But, StaysOrLeaves, StepsWith, Takes, Running, is_kept_at}
 use Rattle.frame_reader.specs.Reader as reader
-use Rattle.hub_lines.specs.State.{HubState, Server, server, has_entry, phase_at, ring_at}
-use Rattle.hub_lines.specs.Calls.{Settled}
-use Rattle.hub_notes.specs.Table.{IsTable, table_of}
-use Rattle.hub_notes.proofs.BoolLemmas.{by_cases, clash}
-use Rattle.loop_runner.specs.declared.intakes.Intake.{Intake}
-use Rattle.loop_runner.specs.declared.intakes.Intakes.{Intakes}
-use Rattle.loop_runner.specs.Intakes.{max_of, intake_at, is_admitted, ChangesIntake, SameIntakes}
-use Rattle.loop_runner.specs.Ready.{IsTaken, IsAsked, Ready}
-use Rattle.loop_runner.specs.Steps.{Every, But, StaysOrLeaves, Steps, Takes, Running, is_kept_at}
 use Rattle.loop_runner.proofs.ProgressLemmas.{read_kept}
-use Rattle.loop_runner.proofs.ViewLemmas.{Written}
+use Rattle.loop_runner.proofs.ViewLemmas.{Written, none_some, same_some}
 
 -- ---- what was taken, in the phase afterwards
 
@@ -41,7 +24,7 @@ taken_as from to r same t = by_cases (is_reading to) (λ reads. taken_stays from
 
 -- ---- one step
 
-pub running_steps : (P : ℕ → Type 0) (intakes : Intakes) (a b : Server) → Running P intakes a → Steps P a b → Running P intakes b
+pub running_steps : {count owed : ℕ} (P : ℕ → Type 0) (intakes : Intakes) (a b : Server) → Running P intakes a → StepsWith count owed P a b → Running P intakes b
 running_steps P intakes a b x s = record {
   max = ap (λ z. z.max_message) s.config ∙ x.max;
   kept = λ c k. x.kept c (s.kept c k);
@@ -107,9 +90,6 @@ running_fewer P old new s x max kept was = record {
 pub running_same : (P : ℕ → Type 0) (old new : Intakes) (s : Server) → Running P old s → SameIntakes old new → Running P new s
 running_same P old new s x same = running_fewer P old new s x same.max (λ c k. ap is_some (same.all c) ∙ x.kept c k) (λ c intake at. sym (same.all c) ∙ at)
 
-none_some : (x : Option Intake) (i : Intake) → x ≡ None → x ≡ Some i → ⊥
-none_some x i n s = let z : None ≡ Some i = sym n ∙ s in absurd cc
-
 -- the intake of a connection that is no entry was shut
 pub running_shut : (conn : ℕ) (old new : Intakes) (s : Server) → Running Every old s → ChangesIntake conn old new → intake_at new conn ≡ None → is_kept_at s.hub conn ≡ false → Running Every new s
 running_shut conn old new s x change none away = running_fewer Every old new s x change.max
@@ -124,9 +104,6 @@ running_shut conn old new s x change none away = running_fewer Every old new s x
 pub running_tidied : (P : ℕ → Type 0) (old new : Intakes) (s : Server) → Running P old s → ((c : ℕ) → has_entry s.hub.entries c ≡ is_admitted new c) → max_of new ≡ max_of old
     → ((c : ℕ) → has_entry s.hub.entries c ≡ true → intake_at new c ≡ intake_at old c) → Running P new s
 running_tidied P old new s x exact max same = running_fewer P old new s x max (λ c k. sym (exact c) ∙ x.table.kept c ∙ k) (λ c intake at. sym (same c (exact c ∙ ap is_some at)) ∙ at)
-
-same_some : (x y : Intake) → Some x ≡ Some y → x ≡ y
-same_some x y e = cc
 
 -- one intake was written, and octets of its connection were taken
 pub running_written : (conn : ℕ) (old new : Intakes) (was now : Intake) (a b : Server) → Running (But conn) old a → Takes conn was.reader now.reader a b → max_of new ≡ max_of old → Written conn now old new
@@ -170,11 +147,11 @@ running_freed conn intakes h a b t x n none = record {
 
 -- ---- how a turn begins and ends
 
-pub running_begun : (intakes : Intakes) (s : Server) → Ready intakes s → Running Every intakes s
-running_begun intakes s x = record {
+pub running_begun : (intakes : Intakes) (s : Server) → Ready intakes s → IsTable (table_of s.hub) → Running Every intakes s
+running_begun intakes s x whole = record {
   max = x.max;
-  kept = λ c k. sym (x.entries c) ∙ x.table.kept c ∙ k;
-  table = x.table;
+  kept = λ c k. sym (x.entries c) ∙ whole.kept c ∙ k;
+  table = whole;
   ties = x.ties;
   named = x.named;
   short = x.short;
@@ -188,7 +165,6 @@ pub ready_of : (intakes : Intakes) (s : Server) → Running Every intakes s → 
 ready_of intakes s x exact settled = record {
   max = x.max;
   entries = exact;
-  table = x.table;
   ties = x.ties;
   named = x.named;
   settled = settled;
@@ -198,3 +174,15 @@ ready_of intakes s x exact settled = record {
   readers = x.readers;
   taken = λ c. x.taken c (tt {0});
 }
+
+-- where nobody is an entry, no Closed event is due
+pub none_due : (h : HubState) (c : ℕ) → IsTable (table_of h) → length h.entries ≡ 0 → due_at h c ≡ None
+none_due h c table none = no_due (due_at h c) (or_right (not (is_gone (entry_of h.entries c).phase)) (is_some (due_at h c)) (sym (table.kept c) ∙ no_entry h.entries none))
+  where
+    no_entry : (entries : List Entry) → length entries ≡ 0 → has_entry entries c ≡ false
+    no_entry [] e = refl
+    no_entry (first ∷ rest) e = absurd (omega (arith, e))
+
+    no_due : (x : Option (ℕ × List ℕ)) → is_some x ≡ false → x ≡ None
+    no_due None e = refl
+    no_due (Some closed) e = clash true e refl

@@ -1,133 +1,135 @@
 -- What the calls of a hub keep.
-use Rattle.std.proofs.Common.{◌≡◌, ◌≤◌, ◌+◌, ◌-◌, ◌^◌, inl, inr, ⊎_elim, ℕ, List, [], ◌∷◌, ◌++◌, Option, Some, Bool, true, false, not, ◌&&◌, ◌||◌, refl, sym, ap, ◌∙◌, subst, arith}
-use Rattle.std.specs.List.{list_any, list_all}
-use Rattle.ws_kinds.specs.ConfigValue.{ConfigValue}
+use Rattle.loop_runner.proofs.Below.{◌≡◌, ◌≤◌, ◌+◌, ◌-◌, ◌^◌, ◌⊎◌, inl, inr, ⊎_elim, ℕ, suc, List, [], ◌∷◌, ◌++◌, Option, Bool, true, false, cond, not, ◌&&◌, ◌||◌, refl, sym, ap, ◌∙◌, subst, arith, append_assoc, list_any, list_all, ConfigValue, NoteValue, OrderValue, IsNoted, AreNoted, Item, NetState, LinkFailed, is_of, is_acceptance, is_turn, is_gone_in, number_of, Standing, is_reading, AreThere, Step, notes_of, of_notes, standings_after, is_outgoing, is_link_failure, Answers, Performs, serves, refuses, notes_of-append, notes_of-notes, list_any-append, is_silent, HubState, Server, server, is_present, phase_at, ring_at, Ties, ShortRings, nothing, short_silent, progress_at, progress_by_steps, RingsWait, NetAfter, RoseBy, Advances, Proceeds, Appends, Makes, IsTable, table_of, EndsTurn, finishes, clash, or_left, or_right, and_left, and_right, Sends, Notes, GivesOctets, LosesLink, Every, But, Grows, RisesBeyond, Onward, StepsWith, Steps, ServesOrders, number_then, rose_same, told_one, steps_of_notes, not_true}
 use Rattle.ws_kinds.specs.NoteValue as note
-use Rattle.ws_kinds.specs.NoteValue.{NoteValue}
-use Rattle.ws_kinds.specs.OrderValue.{OrderValue}
-use Rattle.ws_kinds.specs.Watch.{IsNoted, AreNoted}
-use Rattle.wire_meaning.specs.Answer.{Item}
-use Rattle.link_trait.specs.NetState.{NetState}
-use Rattle.run_meaning.specs.Notes.{is_of, is_acceptance}
-use Rattle.run_meaning.specs.Counts.{is_gone_in}
-use Rattle.run_meaning.specs.Orders.{Standing}
-use Rattle.run_meaning.specs.Steps.{Step, notes_of, of_notes, standings_after}
-use Rattle.run_meaning.specs.Performs.{is_outgoing, Answers, Performs}
-use Rattle.run_meaning.specs.Performs.Answers.{serves, refuses}
-use Rattle.run_meaning.proofs.NoteLemmas.{notes_of-append, notes_of-notes}
-use Rattle.run_meaning.proofs.Parts.{list_any-append}
-use Rattle.hub_lines.specs.Told.{is_silent}
-use Rattle.hub_lines.specs.State.{HubState, Server, server, is_present, phase_at, ring_at}
-use Rattle.hub_lines.specs.Calls.{Ties, ShortRings, nothing}
-use Rattle.hub_lines.proofs.CallLemmas.{short_silent}
-use Rattle.hub_notes.specs.Progress.{progress_at, progress_by_steps}
-use Rattle.hub_notes.specs.Fronts.{RingsWait}
-use Rattle.hub_notes.specs.NetAfter.{NetAfter, RoseBy}
-use Rattle.hub_notes.specs.Calls.{Advances, Proceeds, Appends}
-use Rattle.hub_notes.specs.Answers.{Makes}
-use Rattle.hub_notes.specs.Table.{IsTable, table_of}
-use Rattle.hub_notes.specs.Turns.{EndsTurn, finishes}
-use Rattle.hub_notes.proofs.BoolLemmas.{clash, or_left, or_right, and_left, and_right}
-use Rattle.hub_core.specs.Sends.{Sends, Notes, GivesOctets, LosesLink}
-use Rattle.loop_runner.specs.Steps.{Every, But, Rises, Onward, Steps}
-use Rattle.loop_runner.specs.Moments.{ServesOrders}
+use Rattle.loop_runner.proofs.NotedLemmas.{links_both, links_noted, links_paid, links_still, number_none, turns_both, turns_noted, turns_same}
 use Rattle.loop_runner.proofs.GrowLemmas.{grows_net, grows_noted, grows_same, grows_then}
-use Rattle.loop_runner.proofs.ProgressLemmas.{begins, begins_of, Stays, Calm, steps_of_notes, stays_after, calm_after, reading_after, present_after, phases_read, stays_or_leaves, kept_at, read_present, not_true}
-
--- ---- faults
-
-pub rises_same : (n : ℕ) → Rises n n
-rises_same n = inl (omega arith)
-
-pub rises_then : (a b d : ℕ) → Rises a b → Rises b d → Rises a d
-rises_then a b d p q = ⊎_elim
-    (λ (more : b ≤ d). ⊎_elim (λ (few : a ≤ b). inl (omega arith)) (λ (most : 2 ^ 64 - 1 ≤ b). inr (omega arith)) p)
-    (λ (most : 2 ^ 64 - 1 ≤ d). inr most)
-    q
-
-pub rises_by : (count a b : ℕ) → RoseBy count a b → Rises a b
-rises_by count a b r = ⊎_elim (λ (more : a + count ≤ b). inl (omega arith)) (λ (most : 2 ^ 64 - 1 ≤ b). inr most) r.each
+use Rattle.loop_runner.proofs.ProgressLemmas.{begins, begins_of, Stays, Calm, stays_after, calm_after, reading_after, present_after, phases_read, stays_or_leaves, kept_at, read_present}
 
 -- ---- what every step keeps
 
-pub onward_same : (s : Server) → Onward s s
-onward_same s = record { grows = grows_same s; room = omega arith; passed = λ t. refl; faults = rises_same s.net.faults }
+pub onward_still : (h g : HubState) (a b : NetState) (t : Option (List NoteValue)) → Grows (server h a t) (server g b t) → b.room ≤ a.room → (a.tells ≡ true → b.passed ≡ a.passed) → a.faults ≤ b.faults
+    → Onward 0 0 (server h a t) (server g b t)
+onward_still h g a b t grows room passed faults = record { grows = grows; turns = turns_same t; room = room; passed = passed; faults = faults; links = links_still 0 h g a b t (inl (omega arith)) }
 
-pub onward_then : (a b d : Server) → Onward a b → Onward b d → Onward a d
-onward_then a b d x y = record {
+-- these notes were added; the count rose by some of the links that failed, and the others failed before
+onward_owed : (count fails owed : ℕ) (ms : List NoteValue) (a b : Server) → AreNoted a.told ms b.told → NetAfter ms a.net b.net → RoseBy fails a.net.faults b.net.faults → number_of is_link_failure ms ≡ fails + owed
+    → number_of is_turn ms ≡ count → Onward count owed a b
+onward_owed count fails owed ms a b told net rose all turns = record {
+  grows = grows_net ms a b told net;
+  turns = turns_noted count ms a.told b.told told turns;
+  room = net.room;
+  passed = λ t. (net.told t).passed;
+  faults = rose.least;
+  links = links_noted fails owed ms a b all told rose;
+}
+
+onward_noted : (count : ℕ) (ms : List NoteValue) (a b : Server) → AreNoted a.told ms b.told → NetAfter ms a.net b.net → RoseBy (number_of is_link_failure ms) a.net.faults b.net.faults → number_of is_turn ms ≡ count
+    → Onward count 0 a b
+onward_noted count ms a b told net rose turns = onward_owed count (number_of is_link_failure ms) 0 ms a b told net rose (omega arith) turns
+
+pub onward_makes : (n : NoteValue) (a b : Server) → Makes (n ∷ []) a b → is_turn n ≡ false → Onward 0 0 a b
+onward_makes n a b x none = onward_noted 0 (n ∷ []) a b x.advances.told x.advances.net x.fails.faults (ap (λ (z : Bool). cond z 1 0) none)
+
+onward_proceeds : (count : ℕ) (first last : List NoteValue) (a b : Server) (x : Proceeds first last a b) → number_of is_turn (first ++ (x.sending ++ last)) ≡ count → Onward count 0 a b
+onward_proceeds count first last a b x turns = onward_noted count (first ++ (x.sending ++ last)) a b x.advances.told x.advances.net x.fails.faults turns
+
+onward_same : (s : Server) → Onward 0 0 s s
+onward_same s = onward_still s.hub s.hub s.net s.net s.told (grows_same s) (omega arith) (λ t. refl) (omega arith)
+
+pub onward_then : {m o n p : ℕ} (a b d : Server) → Onward m o a b → Onward n p b d → Onward (m + n) (o + p) a d
+onward_then {m} {o} {n} {p} a b d x y = record {
   grows = grows_then a b d x.grows y.grows;
+  turns = turns_both m n a.told b.told d.told x.turns y.turns;
   room = let p = x.room in let q = y.room in omega arith;
   passed = λ t. y.passed (x.grows.tells ∙ t) ∙ x.passed t;
-  faults = rises_then a.net.faults b.net.faults d.net.faults x.faults y.faults;
+  faults = let p = x.faults in let q = y.faults in omega arith;
+  links = links_both 0 o 0 p a b d x.links y.links y.faults;
 }
+
+-- a link failed, and then this is noted
+onward_paid : (a b d : Server) → Onward 0 0 a b → RisesBeyond 1 0 a b → Onward 0 1 b d → Onward 0 0 a d
+onward_paid a b d x failed y =
+    let z = onward_then a b d x y in
+    record { grows = z.grows; turns = z.turns; room = z.room; passed = z.passed; faults = z.faults; links = links_paid a d (links_both 1 0 0 1 a b d failed y.links y.faults) }
 
 -- ---- notes that begin nothing
 
+-- the note says that a connection was accepted or is open, or that a turn ended
+abbrev pub starts : NoteValue → Bool
+starts n = begins n || is_turn n
+
+all_none : {A : Type 0} (test other : A → Bool) → ((x : A) → test x ≡ false → other x ≡ false) → (xs : List A) → list_any test xs ≡ false → list_any other xs ≡ false
+all_none test other h [] e = refl
+all_none test other h (x ∷ xs) e = ap (λ (z : Bool). z || list_any other xs) (h x (or_left (test x) (list_any test xs) e)) ∙ all_none test other h xs (or_right (test x) (list_any test xs) e)
+
+starts_begins : (n : NoteValue) → starts n ≡ false → begins n ≡ false
+starts_begins n e = or_left (begins n) (is_turn n) e
+
+starts_turn : (n : NoteValue) → starts n ≡ false → is_turn n ≡ false
+starts_turn n e = or_right (begins n) (is_turn n) e
+
 none_of : (c : ℕ) (n : NoteValue) → begins n ≡ false → begins_of c n ≡ false
 none_of c n e = ap (λ (z : Bool). z && is_of c n) e
-
-pub begin_none : (c : ℕ) (ns : List NoteValue) → list_any begins ns ≡ false → list_any (begins_of c) ns ≡ false
-begin_none c [] e = refl
-begin_none c (n ∷ ns) e =
-    ap (λ (z : Bool). z || list_any (begins_of c) ns) (none_of c n (or_left (begins n) (list_any begins ns) e))
-    ∙ begin_none c ns (or_right (begins n) (list_any begins ns) e)
 
 begins_more : (n : NoteValue) → begins n ≡ false → is_acceptance n ≡ false
 begins_more (note.accepted c) e = clash true e refl
 begins_more _ e = refl
 
-pub accepts_none : (ns : List NoteValue) → list_any begins ns ≡ false → list_any is_acceptance ns ≡ false
-accepts_none [] e = refl
-accepts_none (n ∷ ns) e =
-    ap (λ (z : Bool). z || list_any is_acceptance ns) (begins_more n (or_left (begins n) (list_any begins ns) e))
-    ∙ accepts_none ns (or_right (begins n) (list_any begins ns) e)
+pub begin_none : (c : ℕ) (ns : List NoteValue) → list_any starts ns ≡ false → list_any (begins_of c) ns ≡ false
+begin_none c ns e = all_none starts (begins_of c) (λ n s. none_of c n (starts_begins n s)) ns e
 
-one_outgoing : (n : NoteValue) → is_outgoing n ≡ true → begins n ≡ false
+pub accepts_none : (ns : List NoteValue) → list_any starts ns ≡ false → list_any is_acceptance ns ≡ false
+accepts_none ns e = all_none starts is_acceptance (λ n s. begins_more n (starts_begins n s)) ns e
+
+turnless : (ns : List NoteValue) → list_any starts ns ≡ false → number_of is_turn ns ≡ 0
+turnless ns e = number_none is_turn ns (all_none starts is_turn starts_turn ns e)
+
+one_outgoing : (n : NoteValue) → is_outgoing n ≡ true → starts n ≡ false
+one_outgoing note.turn e = clash false refl e
 one_outgoing (note.accepted c) e = clash false refl e
 one_outgoing (note.opened c route param) e = clash false refl e
 one_outgoing _ e = refl
 
 -- a note of what was to be sent begins nothing
-pub outgoing_begins : (ns : List NoteValue) → list_all is_outgoing ns ≡ true → list_any begins ns ≡ false
-outgoing_begins [] e = refl
-outgoing_begins (n ∷ ns) e =
-    ap (λ (z : Bool). z || list_any begins ns) (one_outgoing n (and_left (is_outgoing n) (list_all is_outgoing ns) e))
-    ∙ outgoing_begins ns (and_right (is_outgoing n) (list_all is_outgoing ns) e)
+outgoing_starts : (ns : List NoteValue) → list_all is_outgoing ns ≡ true → list_any starts ns ≡ false
+outgoing_starts [] e = refl
+outgoing_starts (n ∷ ns) e =
+    ap (λ (z : Bool). z || list_any starts ns) (one_outgoing n (and_left (is_outgoing n) (list_all is_outgoing ns) e))
+    ∙ outgoing_starts ns (and_right (is_outgoing n) (list_all is_outgoing ns) e)
 
 any_then : {A : Type 0} (test : A → Bool) (xs ys : List A) → list_any test xs ≡ false → list_any test ys ≡ false → list_any test (xs ++ ys) ≡ false
 any_then test xs ys e h = list_any-append test xs ys ∙ ap (λ (z : Bool). z || list_any test ys) e ∙ h
 
 -- so do the notes of a call, where the first and the last ones do
-pub call_begins : (first last : List NoteValue) (a b : Server) (x : Proceeds first last a b) → list_any begins last ≡ false → list_any begins (x.sending ++ last) ≡ false
-call_begins first last a b x e = any_then begins x.sending last (outgoing_begins x.sending x.outgoing) e
+pub call_begins : (first last : List NoteValue) (a b : Server) (x : Proceeds first last a b) → list_any starts last ≡ false → list_any starts (x.sending ++ last) ≡ false
+call_begins first last a b x e = any_then starts x.sending last (outgoing_starts x.sending x.outgoing) e
 
 -- and the steps of orders
-answers_begin : (f : ConfigValue) (admits : List ℕ → Bool) (from i : ℕ) (standing : ℕ → Standing) (o : OrderValue) (xs : List Step) → Answers f admits from i standing o xs → list_any begins (notes_of xs) ≡ false
-answers_begin f admits from i standing o xs (serves sending outgoing none is) =
-    ap (λ (z : List Step). list_any begins (notes_of z)) is ∙ ap (list_any begins) (notes_of-notes sending) ∙ outgoing_begins sending outgoing
-answers_begin f admits from i standing o xs (refuses reason may is) = ap (λ (z : List Step). list_any begins (notes_of z)) is
+answers_start : (f : ConfigValue) (admits : List ℕ → Bool) (from i : ℕ) (standing : ℕ → Standing) (o : OrderValue) (xs : List Step) → Answers f admits from i standing o xs → list_any starts (notes_of xs) ≡ false
+answers_start f admits from i standing o xs (serves sending outgoing none is) =
+    ap (λ (z : List Step). list_any starts (notes_of z)) is ∙ ap (list_any starts) (notes_of-notes sending) ∙ outgoing_starts sending outgoing
+answers_start f admits from i standing o xs (refuses reason may is) = ap (λ (z : List Step). list_any starts (notes_of z)) is
 
-performs_begin : (f : ConfigValue) (admits : List ℕ → Bool) (from i : ℕ) (standing : ℕ → Standing) (os : List OrderValue) (xs : List Step) → Performs f admits from i standing os xs → list_any begins (notes_of xs) ≡ false
-performs_begin f admits from i standing [] xs is = ap (λ (z : List Step). list_any begins (notes_of z)) is
-performs_begin f admits from i standing (o ∷ os) xs x =
-    ap (λ (z : List Step). list_any begins (notes_of z)) x.2 ∙ ap (list_any begins) (notes_of-append x.0 x.1)
-    ∙ any_then begins (notes_of x.0) (notes_of x.1) (answers_begin f admits from i standing o x.0 x.3) (performs_begin f admits from (i + 1) (standings_after x.0 standing) os x.1 x.4)
+performs_start : (f : ConfigValue) (admits : List ℕ → Bool) (from i : ℕ) (standing : ℕ → Standing) (os : List OrderValue) (xs : List Step) → Performs f admits from i standing os xs → list_any starts (notes_of xs) ≡ false
+performs_start f admits from i standing [] xs is = ap (λ (z : List Step). list_any starts (notes_of z)) is
+performs_start f admits from i standing (o ∷ os) xs x =
+    ap (λ (z : List Step). list_any starts (notes_of z)) x.2 ∙ ap (list_any starts) (notes_of-append x.0 x.1)
+    ∙ any_then starts (notes_of x.0) (notes_of x.1) (answers_start f admits from i standing o x.0 x.3) (performs_start f admits from (i + 1) (standings_after x.0 standing) os x.1 x.4)
 
 -- ---- what follows from steps
 
-record Acts (xs : List Step) (a b : Server) : Type 0 where
-  told : AreNoted a.told (notes_of xs) b.told
+record Acts (count owed : ℕ) (xs : List Step) (a b : Server) : Type 0 where
+  onward : Onward count owed a b
   progress : (c : ℕ) → progress_at b.hub c ≡ progress_by_steps c xs (progress_at a.hub c)
   net : NetAfter (notes_of xs) a.net b.net
-  faults : Rises a.net.faults b.net.faults
   config : b.hub.config ≡ a.hub.config
   short : ShortRings a → ShortRings b
   waits : RingsWait a → RingsWait b
 
-steps_by : (P : ℕ → Type 0) (xs : List Step) (a b : Server) → Acts xs a b → Ties b → IsTable (table_of b.hub) → b.hub.named ≡ a.hub.named → ((c : ℕ) → P c → list_any (begins_of c) (notes_of xs) ≡ false)
-    → list_any is_acceptance (notes_of xs) ≡ false → Steps P a b
+steps_by : {count owed : ℕ} (P : ℕ → Type 0) (xs : List Step) (a b : Server) → Acts count owed xs a b → Ties b → IsTable (table_of b.hub) → b.hub.named ≡ a.hub.named → ((c : ℕ) → P c → list_any (begins_of c) (notes_of xs) ≡ false)
+    → list_any is_acceptance (notes_of xs) ≡ false → StepsWith count owed P a b
 steps_by P xs a b x ties table named calm none = record {
-  onward = record { grows = grows_net (notes_of xs) a b x.told x.net; room = x.net.room; passed = λ t. (x.net.told t).passed; faults = x.faults };
+  onward = x.onward;
   config = x.config;
   named = named;
   net_named = x.net.named;
@@ -156,16 +158,15 @@ steps_by P xs a b x ties table named calm none = record {
     present c = present_after c xs a.hub b.hub (x.progress c) none
 
 -- a call that is told by its notes
-pub steps_of : (P : ℕ → Type 0) (ns : List NoteValue) (f : ℕ → List Item) (a b : Server) → Advances ns a b → Rises a.net.faults b.net.faults → Appends f a b → Ties b → IsTable (table_of b.hub)
-    → b.hub.named ≡ a.hub.named → ((c : ℕ) → P c → list_any (begins_of c) ns ≡ false) → list_any is_acceptance ns ≡ false → Steps P a b
-steps_of P ns f a b adv faults app ties table named calm none =
+steps_of : {count owed : ℕ} (P : ℕ → Type 0) (ns : List NoteValue) (f : ℕ → List Item) (a b : Server) → Advances ns a b → Onward count owed a b → Appends f a b → Ties b → IsTable (table_of b.hub)
+    → b.hub.named ≡ a.hub.named → ((c : ℕ) → P c → list_any (begins_of c) ns ≡ false) → list_any is_acceptance ns ≡ false → StepsWith count owed P a b
+steps_of P ns f a b adv onward app ties table named calm none =
     let back : notes_of (of_notes ns) ≡ ns = notes_of-notes ns in
     steps_by P (of_notes ns) a b
     (record {
-      told = subst (λ (z : List NoteValue). AreNoted a.told z b.told) (sym back) adv.told;
+      onward = onward;
       progress = λ c. adv.progress c ∙ sym (steps_of_notes c ns (progress_at a.hub c));
       net = subst (λ (z : List NoteValue). NetAfter z a.net b.net) (sym back) adv.net;
-      faults = faults;
       config = app.lines.config;
       short = app.short;
       waits = app.waits;
@@ -173,54 +174,63 @@ steps_of P ns f a b adv faults app ties table named calm none =
     ties table named (λ c p. ap (list_any (begins_of c)) back ∙ calm c p) (ap (list_any is_acceptance) back ∙ none)
 
 -- one whose first note begins nothing for these connections
-pub steps_first : (P : ℕ → Type 0) (conn : ℕ) (n : NoteValue) (f : ℕ → List Item) (a b : Server) → Sends conn (n ∷ []) f a b → ((c : ℕ) → P c → begins_of c n ≡ false) → is_acceptance n ≡ false → Steps P a b
+pub steps_first : (P : ℕ → Type 0) (conn : ℕ) (n : NoteValue) (f : ℕ → List Item) (a b : Server) → Sends conn (n ∷ []) f a b → ((c : ℕ) → P c → begins_of c n ≡ false) → (is_acceptance n || is_turn n) ≡ false → Steps P a b
 steps_first P conn n f a b x calm none =
     let sent = call_begins (n ∷ []) [] a b x.proceeds refl in
     let ns = x.proceeds.sending ++ [] in
-    steps_of P (n ∷ ns) f a b x.proceeds.advances (rises_by _ a.net.faults b.net.faults x.proceeds.fails.faults) x.appends x.ties x.table x.named
+    let turns = ap (λ (z : Bool). cond z (suc (number_of is_turn ns)) (number_of is_turn ns)) (or_right (is_acceptance n) (is_turn n) none) ∙ turnless ns sent in
+    steps_of P (n ∷ ns) f a b x.proceeds.advances (onward_proceeds 0 (n ∷ []) [] a b x.proceeds turns) x.appends x.ties x.table x.named
     (λ c p. ap (λ (z : Bool). z || list_any (begins_of c) ns) (calm c p) ∙ begin_none c ns sent)
-    (ap (λ (z : Bool). z || list_any is_acceptance ns) none ∙ accepts_none ns sent)
+    (ap (λ (z : Bool). z || list_any is_acceptance ns) (or_left (is_acceptance n) (is_turn n) none) ∙ accepts_none ns sent)
 
 -- and nothing for any
-pub steps_sends : {conn : ℕ} {n : NoteValue} {f : ℕ → List Item} (a b : Server) → Sends conn (n ∷ []) f a b → begins n ≡ false → Steps Every a b
-steps_sends {conn} {n} {f} a b x calm = steps_first Every conn n f a b x (λ c _. none_of c n calm) (begins_more n calm)
+pub steps_sends : {conn : ℕ} {n : NoteValue} {f : ℕ → List Item} (a b : Server) → Sends conn (n ∷ []) f a b → starts n ≡ false → Steps Every a b
+steps_sends {conn} {n} {f} a b x calm = steps_first Every conn n f a b x (λ c _. none_of c n (starts_begins n calm))
+    (ap (λ (z : Bool). z || is_turn n) (begins_more n (starts_begins n calm)) ∙ starts_turn n calm)
 
-pub steps_makes : (n : NoteValue) (a b : Server) → Makes (n ∷ []) a b → Appends nothing a b → Ties b → IsTable (table_of b.hub) → b.hub.named ≡ a.hub.named → begins n ≡ false → Steps Every a b
+pub steps_makes : (n : NoteValue) (a b : Server) → Makes (n ∷ []) a b → Appends nothing a b → Ties b → IsTable (table_of b.hub) → b.hub.named ≡ a.hub.named → starts n ≡ false → Steps Every a b
 steps_makes n a b x app ties table named calm =
-    steps_of Every (n ∷ []) nothing a b x.advances (rises_by _ a.net.faults b.net.faults x.fails.faults) app ties table named
-    (λ c _. ap (λ (z : Bool). z || false) (none_of c n calm)) (ap (λ (z : Bool). z || false) (begins_more n calm))
+    steps_of Every (n ∷ []) nothing a b x.advances (onward_makes n a b x (starts_turn n calm)) app ties table named
+    (λ c _. ap (λ (z : Bool). z || false) (none_of c n (starts_begins n calm))) (ap (λ (z : Bool). z || false) (begins_more n (starts_begins n calm)))
 
-pub steps_notes : {conn : ℕ} {n : NoteValue} (a b : Server) → Notes conn (n ∷ []) a b → begins n ≡ false → Steps Every a b
+pub steps_notes : {conn : ℕ} {n : NoteValue} (a b : Server) → Notes conn (n ∷ []) a b → starts n ≡ false → Steps Every a b
 steps_notes {conn} {n} a b x calm = steps_makes n a b x.makes x.appends x.ties x.table x.named calm
 
 pub steps_given : {conn count : ℕ} (a b : Server) → GivesOctets conn count a b → Steps Every a b
 steps_given a b x = steps_makes (note.given _ _) a b x.makes x.appends x.ties x.table x.named refl
 
-pub steps_lost : {conn : ℕ} (a b : Server) → LosesLink conn a b → Steps Every a b
-steps_lost a b x = steps_of Every _ nothing a b x.advances (rises_by _ a.net.faults b.net.faults x.fails.faults) x.appends x.ties x.table x.named (λ d _. refl) refl
+-- a read of the link failed before
+steps_lost : (conn : ℕ) (a b : Server) → LosesLink conn a b → StepsWith 0 1 Every a b
+steps_lost conn a b x =
+    steps_of Every (note.gone conn LinkFailed ∷ []) nothing a b x.advances (onward_owed 0 0 1 (note.gone conn LinkFailed ∷ []) a b x.advances.told x.advances.net x.fails.faults refl refl) x.appends x.ties x.table x.named (λ d _. refl) refl
 
-finishes_begin : (conns : List ℕ) → list_any begins (finishes conns) ≡ false
-finishes_begin [] = refl
-finishes_begin (c ∷ conns) = finishes_begin conns
+finishes_start : (conns : List ℕ) → list_any starts (finishes conns) ≡ false
+finishes_start [] = refl
+finishes_start (c ∷ conns) = finishes_start conns
 
-pub steps_ended : (a b : Server) → EndsTurn a b → Appends nothing a b → Ties b → IsTable (table_of b.hub) → b.hub.named ≡ a.hub.named → Steps Every a b
+-- the end of a turn
+pub steps_ended : (a b : Server) → EndsTurn a b → Appends nothing a b → Ties b → IsTable (table_of b.hub) → b.hub.named ≡ a.hub.named → StepsWith 1 0 Every a b
 steps_ended a b x app ties table named =
-    let last = finishes x.finished ++ note.turn ∷ [] in
-    let none = call_begins [] last a b x.proceeds (any_then begins (finishes x.finished) (note.turn ∷ []) (finishes_begin x.finished) refl) in
-    steps_of Every (x.proceeds.sending ++ last) nothing a b x.proceeds.advances (rises_by _ a.net.faults b.net.faults x.proceeds.fails.faults) app ties table named
-    (λ c _. begin_none c (x.proceeds.sending ++ last) none) (accepts_none (x.proceeds.sending ++ last) none)
+    let front = x.proceeds.sending ++ finishes x.finished in
+    let none : list_any starts front ≡ false = any_then starts x.proceeds.sending (finishes x.finished) (outgoing_starts x.proceeds.sending x.proceeds.outgoing) (finishes_start x.finished) in
+    let all : front ++ note.turn ∷ [] ≡ x.proceeds.sending ++ (finishes x.finished ++ note.turn ∷ []) = append_assoc x.proceeds.sending (finishes x.finished) (note.turn ∷ []) in
+    steps_of Every (x.proceeds.sending ++ (finishes x.finished ++ note.turn ∷ [])) nothing a b x.proceeds.advances
+    (onward_proceeds 1 [] (finishes x.finished ++ note.turn ∷ []) a b x.proceeds
+    (ap (number_of is_turn) (sym all) ∙ number_then is_turn front (note.turn ∷ []) ∙ ap (λ (z : ℕ). z + 1) (turnless front none)))
+    app ties table named
+    (λ c _. ap (list_any (begins_of c)) (sym all) ∙ any_then (begins_of c) front (note.turn ∷ []) (begin_none c front none) refl)
+    (ap (list_any is_acceptance) (sym all) ∙ any_then is_acceptance front (note.turn ∷ []) (accepts_none front none) refl)
 
 -- orders that were served
 pub steps_served : (conn : ℕ) (orders : List OrderValue) (a b : Server) → ServesOrders conn orders a b → Ties b → IsTable (table_of b.hub) → b.hub.named ≡ a.hub.named → Steps Every a b
 steps_served conn orders a b x ties table named =
     let does = x.does (λ _. []) in
-    let none = performs_begin _ _ conn 0 _ orders x.steps x.performs in
+    let none = performs_start _ _ conn 0 _ orders x.steps x.performs in
     steps_by Every x.steps a b
     (record {
-      told = does.told;
+      onward = onward_noted 0 (notes_of x.steps) a b does.told does.net does.fails.faults (turnless (notes_of x.steps) none);
       progress = does.progress;
       net = does.net;
-      faults = rises_by _ a.net.faults b.net.faults does.fails.faults;
       config = does.appends.lines.config;
       short = does.appends.short;
       waits = does.appends.waits;
@@ -229,27 +239,33 @@ steps_served conn orders a b x ties table named =
 
 -- ---- one step after another
 
-pub steps_same : (P : ℕ → Type 0) (s : Server) → Steps P s s
-steps_same P s = record {
-  onward = onward_same s;
+-- one that leaves the hub
+pub steps_still : (P : ℕ → Type 0) (h : HubState) (a b : NetState) (t t' : Option (List NoteValue)) → Onward 0 0 (server h a t) (server h b t') → b.named ≡ a.named → (Ties (server h a t) → Ties (server h b t'))
+    → (ShortRings (server h a t) → ShortRings (server h b t')) → (RingsWait (server h a t) → RingsWait (server h b t')) → (AreThere (server h a t) → AreThere (server h b t'))
+    → ((c : ℕ) → P c → is_reading (phase_at h c) ≡ true → b.due c ≡ a.due c) → Steps P (server h a t) (server h b t')
+steps_still P h a b t t' onward named ties short waits there due = record {
+  onward = onward;
   config = refl;
   named = refl;
-  net_named = refl;
-  table = λ t. t;
-  ties = λ t. t;
-  short = λ t. t;
-  waits = λ t. t;
-  there = λ t. t;
+  net_named = named;
+  table = λ table. table;
+  ties = ties;
+  short = short;
+  waits = waits;
+  there = there;
   kept = λ c k. k;
   reading = λ c r. r;
-  due = λ c p r. refl;
+  due = due;
   phase = λ c p r. inl refl;
   weight = λ c p. omega arith;
 }
 
-pub steps_then : (P : ℕ → Type 0) (a b d : Server) → Steps P a b → Steps P b d → Steps P a d
-steps_then P a b d x y = record {
-  onward = onward_then a b d x.onward y.onward;
+pub steps_same : (P : ℕ → Type 0) (s : Server) → Steps P s s
+steps_same P s = steps_still P s.hub s.net s.net s.told s.told (onward_same s) refl (λ t. t) (λ t. t) (λ t. t) (λ t. t) (λ c p r. refl)
+
+steps_join : {m o n p k q : ℕ} (P : ℕ → Type 0) (a b d : Server) → StepsWith m o P a b → StepsWith n p P b d → Onward k q a d → StepsWith k q P a d
+steps_join P a b d x y onward = record {
+  onward = onward;
   config = y.config ∙ x.config;
   named = y.named ∙ x.named;
   net_named = y.net_named ∙ x.net_named;
@@ -265,7 +281,10 @@ steps_then P a b d x y = record {
   weight = λ c p. let m = x.weight c p in let n = y.weight c p in omega arith;
 }
 
-pub steps_but : (conn : ℕ) (a b : Server) → Steps Every a b → Steps (But conn) a b
+pub steps_then : (P : ℕ → Type 0) (a b d : Server) → Steps P a b → Steps P b d → Steps P a d
+steps_then P a b d x y = steps_join P a b d x y (onward_then a b d x.onward y.onward)
+
+pub steps_but : {count owed : ℕ} (conn : ℕ) (a b : Server) → StepsWith count owed Every a b → StepsWith count owed (But conn) a b
 steps_but conn a b x = record {
   onward = x.onward;
   config = x.config;
@@ -283,21 +302,21 @@ steps_but conn a b x = record {
   weight = λ c p. x.weight c (tt {0});
 }
 
+-- a read of the link failed, and this was noted
+pub steps_failed : (conn : ℕ) (a b d : Server) → Steps (But conn) a b → RisesBeyond 1 0 a b → LosesLink conn b d → Steps (But conn) a d
+steps_failed conn a b d x failed lost =
+    let y = steps_lost conn b d lost in
+    steps_join (But conn) a b d x (steps_but conn b d y) (onward_paid a b d x.onward failed y.onward)
+
 -- a note of the loop's own that says nothing of what was sent changes nothing else
-pub steps_noted : (n : NoteValue) (h : HubState) (net : NetState) (t t' : Option (List NoteValue)) → IsNoted t n t' → ((c : ℕ) → is_silent c n ≡ true) → Steps Every (server h net t) (server h net t')
-steps_noted n h net t t' noted silent = record {
-  onward = record { grows = grows_noted n h h net t t' noted; room = omega arith; passed = λ _. refl; faults = rises_same net.faults };
-  config = refl;
-  named = refl;
-  net_named = refl;
-  table = λ table. table;
-  ties = λ ties. ties;
-  short = λ short c there. short_silent c (ring_at h c) t t' n noted (silent c) (short c there);
-  waits = λ waits. waits;
-  there = λ there. there;
-  kept = λ c k. k;
-  reading = λ c r. r;
-  due = λ c p r. refl;
-  phase = λ c p r. inl refl;
-  weight = λ c p. omega arith;
-}
+pub steps_noted : (n : NoteValue) (h : HubState) (net : NetState) (t t' : Option (List NoteValue)) → IsNoted t n t' → ((c : ℕ) → is_silent c n ≡ true) → (is_turn n || is_link_failure n) ≡ false → Steps Every (server h net t) (server h net t')
+steps_noted n h net t t' noted silent none = steps_still Every h net net t t'
+    (record {
+      grows = grows_noted n h h net t t' noted;
+      turns = turns_noted 0 (n ∷ []) t t' (told_one t t' n noted) (ap (λ (z : Bool). cond z 1 0) (or_left (is_turn n) (is_link_failure n) none));
+      room = omega arith;
+      passed = λ _. refl;
+      faults = omega arith;
+      links = links_noted 0 0 (n ∷ []) (server h net t) (server h net t') (ap (λ (z : Bool). cond z 1 0) (or_right (is_turn n) (is_link_failure n) none)) (told_one t t' n noted) (rose_same net.faults);
+    })
+    refl (λ ties. ties) (λ short c there. short_silent c (ring_at h c) t t' n noted (silent c) (short c there)) (λ waits. waits) (λ there. there) (λ c p r. refl)

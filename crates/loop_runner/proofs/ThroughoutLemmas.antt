@@ -1,27 +1,10 @@
 -- What was heard at the end of each turn, as turns end.
-use Rattle.std.proofs.Common.{◌≡◌, ◌<◌, ◌^◌, ◌-◌, ℕ, List, [], ◌∷◌, ◌++◌, Option, Some, None, Bool, true, false, ◌||◌, length, refl, sym, ap, ◌∙◌, subst, append_assoc}
-use Rattle.std.specs.List.{list_any, list_all}
+use Rattle.loop_runner.proofs.Below.{◌≡◌, ◌<◌, ◌^◌, ◌-◌, ℕ, List, [], ◌∷◌, ◌++◌, Option, Some, None, true, length, refl, sym, ◌∙◌, subst, append_assoc, NoteValue, AreNoted, is_rest, LivedThroughout, Right, Server, EndsTurn, finishes, IntakeView, backlog_at, lived_through_turn, Turned, ending, PassesTurn, Grows, Beginning, KeptAll, IsRight, IsLivedThroughout, EndsWithTurn, meaning_of}
 use Rattle.ws_kinds.specs.NoteValue as note
-use Rattle.ws_kinds.specs.NoteValue.{NoteValue}
-use Rattle.ws_kinds.specs.Watch.{AreNoted}
-use Rattle.link_trait.specs.Net.{is_rest}
-use Rattle.link_trait.specs.declared.net.NetEvent.{NetEvent}
-use Rattle.run_meaning.specs.Life.{LivedThroughout}
-use Rattle.run_meaning.specs.Right.{Right}
-use Rattle.hub_lines.specs.State.{Server}
-use Rattle.hub_notes.specs.Turns.{EndsTurn, finishes}
-use Rattle.hub_notes.proofs.BoolLemmas.{and_left, and_right}
-use Rattle.run_kept.specs.Kept.{IntakeView}
-use Rattle.run_kept.specs.Ends.{backlog_at}
-use Rattle.run_kept.proofs.ThroughoutLemmas.{lived_through_turn}
-use Rattle.loop_runner.specs.declared.turn.Turned.{Turned}
 use Rattle.loop_runner.specs.declared.turn.Turned.TheVariants as turned
-use Rattle.loop_runner.specs.Turns.{is_between, ending, PassesTurn}
-use Rattle.loop_runner.specs.Steps.{Grows}
-use Rattle.loop_runner.specs.Keeps.{Beginning, KeptAll, IsRight, IsLivedThroughout, EndsWithTurn, meaning_of}
 use Rattle.loop_runner.proofs.AnswerLemmas.{grows_whole}
 use Rattle.loop_runner.proofs.KeepLemmas.{earlier}
-use Rattle.loop_runner.proofs.TurnLemmas.{one_between}
+use Rattle.loop_runner.proofs.TurnLemmas.{none_rest}
 
 -- ---- the notes end with a turn
 
@@ -45,11 +28,6 @@ no_place : (before rest : List NoteValue) (n : NoteValue) → [] ≡ before ++ n
 no_place [] rest n e = absurd cc
 no_place (x ∷ before) rest n e = absurd cc
 
-none_rest : (xs : List NetEvent) → list_all is_between xs ≡ true → list_any is_rest xs ≡ false
-none_rest [] e = refl
-none_rest (x ∷ xs) e =
-    ap (λ (z : Bool). z || list_any is_rest xs) (one_between x (and_left (is_between x) (list_all is_between xs) e)) ∙ none_rest xs (and_right (is_between x) (list_all is_between xs) e)
-
 pub ending_rest : (end : Turned) → is_rest (ending end) ≡ true
 ending_rest turned.Turn = refl
 ending_rest turned.Stop = refl
@@ -65,8 +43,8 @@ module _ {S : Type 0} (b : Beginning S) where
       let e = last ms told in
       subst (λ (z : List NoteValue). LivedThroughout r b.table b.config.max_message z d.net.given) (sym x.all)
       (lived_through_turn r b.config b.table x.notes x.later e.0 a.net d.net u.0 (ending end) next (backlog_at d.hub)
-      (kept x.notes x.told x.tells replies x.agree x.few).kept.follows
-      (subst (λ (z : List NoteValue). Right r b.config b.table z d.net next (backlog_at d.hub)) x.all (right ms told tells replies agree items))
+      (kept.holds x.notes x.told x.tells replies x.agree x.few).kept.follows
+      (subst (λ (z : List NoteValue). Right r b.config b.table z d.net next (backlog_at d.hub)) x.all (right.right ms told tells replies agree items))
       (grows.given x.tells) (none_rest u.0 u.1) (ending_rest end) (grows_whole (u.0 ++ ending end ∷ []) a.net.passed d.net.passed u.2 few) (sym x.all ∙ e.1)
       (lived x.notes x.told x.tells replies x.agree x.few))
 

@@ -1,19 +1,5 @@
 -- As many entries as intakes, each entry with an intake: they are the same connections.
-use Rattle.std.proofs.Common.{◌≡◌, ◌<◌, ℕ, List, [], ◌∷◌, length, map, Bool, true, false, is_some, nat_eq, ◌||◌, refl, sym, ap, ◌∙◌, subst, arith}
-use Rattle.std.specs.Prelude.{IsSome}
-use Rattle.std.proofs.lemmas.List.{length-map}
-use Rattle.std.specs.List.{list_any, AllByRecursion, IsDistinct}
-use Rattle.std.specs.Ordering.{nat_cmp, eq_by_cmp}
-use Rattle.std.specs.Cmp.{eq_by_cmp_equiv}
-use Rattle.std.specs.Map.{lookup}
-use Rattle.std.specs.BTreeMap.{BTreeMap, get, btree_map_len}
-use Rattle.std.proofs.lemmas.Cmp.{nat_cmp_total}
-use Rattle.std.proofs.lemmas.Map.Steps.{length-le_from_keys}
-use Rattle.std.proofs.lemmas.Bool.Decides.{nat_tests}
-use Rattle.hub_lines.specs.State.{Entry, has_entry}
-use Rattle.hub_notes.specs.Table.{AreAbove, AreRising}
-use Rattle.hub_notes.proofs.BoolLemmas.{by_cases, or_left, or_right}
-use Rattle.loop_runner.specs.declared.intakes.Intake.{Intake}
+use Rattle.loop_runner.proofs.Below.{◌≡◌, ◌<◌, ℕ, List, [], ◌∷◌, length, map, Bool, true, false, is_some, nat_eq, ◌||◌, refl, sym, ap, ◌∙◌, subst, arith, IsSome, length-map, list_any, AllByRecursion, IsDistinct, nat_cmp, eq_by_cmp, eq_by_cmp_equiv, lookup, BTreeMap, get, btree_map_len, nat_cmp_total, length-le_from_keys, nat_tests, Entry, has_entry, AreAbove, AreRising, by_cases, or_left, or_right, Intake}
 
 abbrev eqn : ℕ → ℕ → Bool
 eqn = eq_by_cmp nat_cmp
@@ -68,10 +54,6 @@ too_many entries es c rising each absent there =
     (λ later. each q (any_entry q entries (sym (ap (λ (z : Bool). z || list_any (eqn q) (conns entries)) later) ∙ e)))) in
     let more = length-map entries (λ (e : Entry). e.conn) in
     omega arith
-
-is_there : (b : Bool) → (b ≡ false → ⊥) → b ≡ true
-is_there true h = refl
-is_there false h = absurd (h refl)
 
 pub all_entries : (entries : List Entry) (m : BTreeMap ℕ Intake) (c : ℕ) → AreRising entries → btree_map_len m ≡ length entries → ((q : ℕ) → has_entry entries q ≡ true → is_some (get nat_cmp m q) ≡ true)
     → has_entry entries c ≡ is_some (get nat_cmp m c)

@@ -1,52 +1,10 @@
 -- What is kept where a connection comes, and as a turn ends.
-use Rattle.std.proofs.Common.{◌≡◌, ◌≢◌, ◌<◌, ◌^◌, ◌-◌, ℕ, List, [], ◌∷◌, ◌++◌, length, take, Option, Some, None, Bool, true, false, cond, nat_eq, nat_lt, refl, sym, ap, ◌∙◌, subst, arith, append-nil, length-append}
-use Rattle.std.proofs.lemmas.Bool.Decides.{nat_tests}
-use Rattle.ws_kinds.specs.declared.conn.Conn.{Conn}
-use Rattle.ws_kinds.specs.ConfigValue.{ConfigValue}
+use Rattle.loop_runner.proofs.Below.{◌≡◌, ◌<◌, ◌^◌, ◌-◌, ℕ, List, [], ◌∷◌, ◌++◌, length, take, Option, Some, None, Bool, true, false, cond, nat_eq, nat_lt, refl, sym, ap, ◌∙◌, subst, arith, length-append, ◌||◌, ◌≢◌, append-nil, nat_tests, Conn, ConfigValue, NoteValue, IsNoted, AreNoted, NetState, Nexts, Shuts, passing, passed_after, is_rest, NetEvent, RouteTable, is_gone_in, is_accepted, world, Follows, arrival, entries, sound_one, HubState, Server, server, has_entry, nothing, Appends, due_at, IsTable, table_of, Makes, Arrives, EndsTurn, Taken, Busy, Memory, told_one, Agrees, agrees_aside, told_is, none_but, new_above, agrees_entries, next_but, aside_but, AreSound, IntakeView, Kept, kept_arrived, none_due, sound_comes, sound_time, gone_accepted, kept_passing, sound_arrival, sound_turn, agrees_now, kept_tick, kept_busy, kept_memory, kept_no_room, kept_shut, kept_readable, kept_writable, kept_turned, Intake, IsNew, Beginning, Holds, KeptAll, meaning_of, intake_view, with_view, Grows, Onward, GrowsBy, Passes, is_opened}
 use Rattle.ws_kinds.specs.NoteValue as note
-use Rattle.ws_kinds.specs.NoteValue.{NoteValue}
-use Rattle.ws_kinds.specs.Watch.{IsNoted, AreNoted}
-use Rattle.link_trait.specs.NetState.{NetState}
-use Rattle.link_trait.specs.Net.{Nexts, Shuts, passing, passed_after, is_rest}
-use Rattle.link_trait.specs.declared.net.NetEvent.{NetEvent}
 use Rattle.link_trait.specs.declared.net.NetEvent.TheVariants as event
-use Rattle.route_table.specs.Table.{RouteTable}
-use Rattle.run_meaning.specs.Counts.{is_gone_in, is_accepted}
-use Rattle.run_meaning.specs.Lines.{world}
-use Rattle.run_meaning.specs.Network.{Follows}
-use Rattle.run_meaning.specs.Network.Mark.{arrival}
-use Rattle.run_meaning.specs.Right.{entries}
 use Rattle.run_meaning.specs.Server as run
-use Rattle.run_meaning.proofs.Singles.{sound_one}
-use Rattle.hub_lines.specs.State.{HubState, Server, server, has_entry}
-use Rattle.hub_lines.specs.Calls.{nothing}
-use Rattle.hub_notes.specs.Calls.{Appends}
-use Rattle.hub_notes.specs.Table.{IsTable, table_of}
-use Rattle.hub_notes.specs.Answers.{Makes, Arrives}
-use Rattle.hub_notes.specs.Turns.{EndsTurn}
-use Rattle.hub_notes.specs.declared.arrival.Arrival.TheVariants.{Taken, Busy, Memory}
-use Rattle.hub_notes.proofs.NoteLemmas.{told_one, told_none}
-use Rattle.run_laws.specs.Agrees.{Agrees}
-use Rattle.run_laws.proofs.AgreeLemmas.{agrees_aside, told_is}
-use Rattle.run_laws.proofs.Adding.{none_but}
-use Rattle.run_laws.proofs.CountLemmas.{new_above, agrees_entries}
-use Rattle.run_laws.proofs.Telling.{next_but, aside_but}
-use Rattle.run_kept.specs.Sounds.{AreSound}
-use Rattle.run_kept.specs.Kept.{IntakeView, Kept}
-use Rattle.run_kept.proofs.ArrivingLemmas.{kept_arrived}
-use Rattle.run_kept.proofs.CallLemmas.{sound_comes, sound_nobody}
-use Rattle.run_kept.proofs.KnownLemmas.{gone_accepted}
-use Rattle.run_kept.proofs.PassingLemmas.{kept_passing}
-use Rattle.run_kept.proofs.PlaceLemmas.{sound_arrival}
-use Rattle.run_kept.proofs.SoundTurnLemmas.{sound_turn}
-use Rattle.run_kept.proofs.TurningLemmas.{agrees_now, kept_tick, kept_busy, kept_memory, kept_no_room, kept_shut, kept_readable, kept_writable, kept_turned}
-use Rattle.loop_runner.specs.declared.intakes.Intake.{Intake}
-use Rattle.loop_runner.specs.declared.turn.Turned.{Turned}
-use Rattle.loop_runner.specs.Intakes.{IsNew}
-use Rattle.loop_runner.specs.Keeps.{Beginning, Holds, KeptAll, meaning_of, intake_view, with_view}
-use Rattle.loop_runner.specs.Steps.{Grows, Onward}
-use Rattle.loop_runner.specs.Turns.{ending, GrowsBy, PassesBetween, PassesTurn}
 use Rattle.loop_runner.proofs.GrowLemmas.{grows_then, grows_makes, grows_noted, grows_next, grows_shut, grows_ended}
+use Rattle.loop_runner.proofs.OpenLemmas.{opens_ended, opens_same, opens_then}
 use Rattle.loop_runner.proofs.KeepLemmas.{keep_on, keep_notes, few_of}
 use Rattle.loop_runner.proofs.ViewLemmas.{with_here, with_other}
 
@@ -68,17 +26,14 @@ fewer_passed passed answer after is few = by_test (nat_lt (length passed) (2 ^ 6
 pub few_before : (answer : NetEvent) (a b : NetState) → Nexts answer a b → a.tells ≡ true → length b.passed < 2 ^ 64 - 1 → length a.passed < 2 ^ 64 - 1
 few_before answer a b n t few = fewer_passed a.passed answer b.passed (n.told t).passed few
 
-pub few_onward : (a b : Server) → Onward a b → a.net.tells ≡ true → length b.net.passed < 2 ^ 64 - 1 → length a.net.passed < 2 ^ 64 - 1
+pub few_onward : {count owed : ℕ} (a b : Server) → Onward count owed a b → a.net.tells ≡ true → length b.net.passed < 2 ^ 64 - 1 → length a.net.passed < 2 ^ 64 - 1
 few_onward a b x t few = subst (λ (z : List NetEvent). length z < 2 ^ 64 - 1) (x.passed t) few
 
 few_grown : (answers old new : List NetEvent) → GrowsBy answers old new → length new < 2 ^ 64 - 1 → length old < 2 ^ 64 - 1
 few_grown answers old new grows few = let l = ap length grows ∙ length-append old (take (2 ^ 64 - 1 - length old) answers) in omega arith
 
-pub few_passes : (a b : NetState) → PassesBetween a b → a.tells ≡ true → length b.passed < 2 ^ 64 - 1 → length a.passed < 2 ^ 64 - 1
-few_passes a b x t few = few_grown (x.told t).0 a.passed b.passed (x.told t).2 few
-
-pub few_turned : (end : Turned) (a b : NetState) → PassesTurn end a b → a.tells ≡ true → length b.passed < 2 ^ 64 - 1 → length a.passed < 2 ^ 64 - 1
-few_turned end a b x t few = few_grown ((x.told t).0 ++ ending end ∷ []) a.passed b.passed (x.told t).2 few
+pub few_passes : {P : List NetEvent → Type 0} (last : List NetEvent) (a b : NetState) → Passes P last a b → a.tells ≡ true → length b.passed < 2 ^ 64 - 1 → length a.passed < 2 ^ 64 - 1
+few_passes last a b x t few = few_grown ((x.told t).0 ++ last) a.passed b.passed (x.told t).2 few
 
 -- ---- a connection comes
 
@@ -86,7 +41,7 @@ apart : (e l m k : ℕ) → e ≡ l → m ≡ k → nat_eq l m ≡ false → fal
 apart e l m k h i ne = grind (arith, nat_tests)
 
 module _ {S : Type 0} (r : run.Server S) (f : ConfigValue) (t : RouteTable) (ns : List NoteValue) (a : Server) (now : S) (vs : ℕ → IntakeView) (k : Kept r f t ns a now vs None)
-    (conn : Conn) (net : NetState) (next : Nexts (event.Accept conn) a.net net) (table : IsTable (table_of a.hub)) (above : a.hub.named < conn.0) (sound : AreSound r f ns) where
+    (conn : Conn) (net : NetState) (next : Nexts (event.Accept conn) a.net net) (table : IsTable (table_of a.hub)) (above : a.hub.named < conn.0) (none : (c : ℕ) → due_at a.hub c ≡ None) (sound : AreSound r f ns) where
   agrees_next : Agrees (world r ns) ns (server a.hub net a.told)
   agrees_next = agrees_now r f t ns a now vs k net (next.net.tells ∙ k.agrees.tells) (next.told k.agrees.tells).traffic
 
@@ -100,13 +55,13 @@ module _ {S : Type 0} (r : run.Server S) (f : ConfigValue) (t : RouteTable) (ns 
   sound_no_room : nat_eq (length a.hub.entries) a.hub.config.max_conns ≡ false → AreSound r f (ns ++ note.no_room conn.0 ∷ [])
   sound_no_room room = sound_one r f ns (note.no_room conn.0)
       (sound_arrival r f ns (note.no_room conn.0) refl (apart (entries r ns) (length a.hub.entries) a.hub.config.max_conns f.max_conns many (ap (λ (z : ConfigValue). z.max_conns) k.configured) room)
-      (λ d own. let e : conn.0 ≡ d = cc in ap (λ (z : ℕ). is_gone_in z ns) (sym e) ∙ gone_accepted r f ns sound conn.0 unknown))
+      (λ d own. let e : conn.0 ≡ d = cc in ap (λ (z : ℕ). is_gone_in z ns) (sym e) ∙ gone_accepted r f ns sound conn.0 unknown) (none_due r ns a k.agrees none))
       sound
 
   sound_busy : nat_eq (length a.hub.entries) a.hub.config.max_conns ≡ true → AreSound r f (ns ++ note.busy conn.0 ∷ [])
   sound_busy full = sound_one r f ns (note.busy conn.0)
       (sound_arrival r f ns (note.busy conn.0) refl (both (entries r ns) (length a.hub.entries) a.hub.config.max_conns f.max_conns many (ap (λ (z : ConfigValue). z.max_conns) k.configured) full)
-      (λ d own. let e : conn.0 ≡ d = cc in ap (λ (z : ℕ). is_gone_in z ns) (sym e) ∙ gone_accepted r f ns sound conn.0 unknown))
+      (λ d own. let e : conn.0 ≡ d = cc in ap (λ (z : ℕ). is_gone_in z ns) (sym e) ∙ gone_accepted r f ns sound conn.0 unknown) (none_due r ns a k.agrees none))
       sound
     where
       both : (e l m k : ℕ) → e ≡ l → m ≡ k → nat_eq l m ≡ true → true ≡ nat_eq e k
@@ -127,7 +82,7 @@ module _ {S : Type 0} (r : run.Server S) (f : ConfigValue) (t : RouteTable) (ns 
       (λ c there. ap (λ (z : HubState). has_entry z.entries c) (sym hub) ∙ there)
 
 module _ {S : Type 0} (b : Beginning S) (conn : Conn) (h : HubState) (before net : NetState) (t : Option (List NoteValue)) (now : S) (views : ℕ → IntakeView)
-    (next : Nexts (event.Accept conn) before net) (few : length before.passed < 2 ^ 64 - 1) (whole : IsTable (table_of h)) (above : h.named < conn.0) where
+    (next : Nexts (event.Accept conn) before net) (few : length before.passed < 2 ^ 64 - 1) (whole : IsTable (table_of h)) (above : h.named < conn.0) (none : (c : ℕ) → due_at h c ≡ None) where
   abbrev a : Server
   a = server h before t
 
@@ -138,7 +93,7 @@ module _ {S : Type 0} (b : Beginning S) (conn : Conn) (h : HubState) (before net
   grows_from d x = grows_then a m d (grows_next (event.Accept conn) h before net t next) x
 
   agrees_then : (replies : ℕ → List ℕ) (ns : List NoteValue) → Holds b replies ns a now views None → Agrees (world (meaning_of b replies) ns) ns m
-  agrees_then replies ns x = agrees_next (meaning_of b replies) b.config b.table ns a now views x.kept conn net next whole above x.sound
+  agrees_then replies ns x = agrees_next (meaning_of b replies) b.config b.table ns a now views x.kept conn net next whole above none x.sound
 
   -- it was accepted
   pub keep_accepted : (d : Server) (intake : Intake) → Arrives Taken conn.0 m d → Appends nothing m d → IsTable (table_of d.hub) → IsNew h.config.max_message (Some intake)
@@ -147,7 +102,7 @@ module _ {S : Type 0} (b : Beginning S) (conn : Conn) (h : HubState) (before net
       let makes : Makes (note.accepted conn.0 ∷ []) m d = arrives.3 in
       let later = with_view conn.0 (intake_view intake) views in
       let here : later conn.0 ≡ intake_view intake = with_here conn.0 (intake_view intake) views in
-      keep_notes b (note.accepted conn.0 ∷ []) a d now now views later None None (grows_from d (grows_makes (note.accepted conn.0 ∷ []) m d makes)) makes.advances.told whole_now
+      keep_notes b (note.accepted conn.0 ∷ []) a d now now views later None None (grows_from d (grows_makes (note.accepted conn.0 ∷ []) m d makes)) makes.advances.told (λ c. refl) whole_now
       (λ replies ns ms tells told x.
       let r = meaning_of b replies in (
         kept_arrived r b.config b.table ns a now views x.kept conn net d ms next arrives app told above x.sound later few whole whole_now
@@ -155,53 +110,53 @@ module _ {S : Type 0} (b : Beginning S) (conn : Conn) (h : HubState) (before net
             (ap (λ (z : IntakeView). z.reader.max) here ∙ new.2 ∙ ap (λ (z : ConfigValue). z.max_message) x.kept.configured)
             (ap (λ (z : IntakeView). z.route) here ∙ new.3) (ap (λ (z : IntakeView). z.param) here ∙ new.4)
             (λ c ne. with_other conn.0 (intake_view intake) views c ne),
-        (sound_comes r b.config Taken ns conn.0 m d (agrees_then replies ns x) whole x.kept.unlike x.kept.configured above arrives x.sound).0,
+        (sound_comes r b.config Taken ns conn.0 m d (agrees_then replies ns x) none whole x.kept.unlike x.kept.configured above arrives x.sound).0,
       ))
 
   -- it was turned away, and its link was shut
-  keep_shut : (n : NoteValue) (d : Server) (end : NetState) → AreNoted t (n ∷ []) d.told → IsTable (table_of d.hub) → Grows m d → Shuts conn.0 d.net end
+  keep_shut : (n : NoteValue) (d : Server) (end : NetState) → ((c : ℕ) → is_opened c n ≡ false) → AreNoted t (n ∷ []) d.told → IsTable (table_of d.hub) → Grows m d → Shuts conn.0 d.net end
       → ((replies : ℕ → List ℕ) (ns ms : List NoteValue) → d.told ≡ Some ms → Holds b replies ns a now views None
       → Kept (meaning_of b replies) b.config b.table (ns ++ n ∷ []) d now views None × AreSound (meaning_of b replies) b.config (ns ++ n ∷ []))
       → KeptAll b a now views None → KeptAll b (server d.hub end d.told) now views None
-  keep_shut n d end noted table grows shuts step =
+  keep_shut n d end unopened noted table grows shuts step =
       keep_notes b (n ∷ []) a (server d.hub end d.told) now now views views None None
-      (grows_from (server d.hub end d.told) (grows_then m d (server d.hub end d.told) grows (grows_shut conn.0 d.hub d.net end d.told shuts))) noted table
+      (grows_from (server d.hub end d.told) (grows_then m d (server d.hub end d.told) grows (grows_shut conn.0 d.hub d.net end d.told shuts))) noted (λ c. ap (λ (z : Bool). z || false) (unopened c)) table
       (λ replies ns ms tells told x.
       let got = step replies ns ms told x in
       (kept_shut (meaning_of b replies) b.config b.table (ns ++ n ∷ []) d now views got.0 conn.0 end shuts, got.1))
 
   pub keep_busy : (d : Server) (end : NetState) → Arrives Busy conn.0 m d → Appends nothing m d → IsTable (table_of d.hub) → Shuts conn.0 d.net end
       → KeptAll b a now views None → KeptAll b (server d.hub end d.told) now views None
-  keep_busy d end arrives app table shuts = keep_shut (note.busy conn.0) d end arrives.2.advances.told table (grows_makes (note.busy conn.0 ∷ []) m d arrives.2) shuts
+  keep_busy d end arrives app table shuts = keep_shut (note.busy conn.0) d end (λ c. refl) arrives.2.advances.told table (grows_makes (note.busy conn.0 ∷ []) m d arrives.2) shuts
       (λ replies ns ms told x. let r = meaning_of b replies in (
         kept_busy r b.config b.table ns a now views x.kept conn net d ms few next arrives app told,
-        (sound_comes r b.config Busy ns conn.0 m d (agrees_then replies ns x) whole x.kept.unlike x.kept.configured above arrives x.sound).0,
+        (sound_comes r b.config Busy ns conn.0 m d (agrees_then replies ns x) none whole x.kept.unlike x.kept.configured above arrives x.sound).0,
       ))
 
   pub keep_memory : (d : Server) (end : NetState) → Arrives Memory conn.0 m d → Appends nothing m d → IsTable (table_of d.hub) → Shuts conn.0 d.net end
       → KeptAll b a now views None → KeptAll b (server d.hub end d.told) now views None
-  keep_memory d end arrives app table shuts = keep_shut (note.no_room conn.0) d end arrives.2.advances.told table (grows_makes (note.no_room conn.0 ∷ []) m d arrives.2) shuts
+  keep_memory d end arrives app table shuts = keep_shut (note.no_room conn.0) d end (λ c. refl) arrives.2.advances.told table (grows_makes (note.no_room conn.0 ∷ []) m d arrives.2) shuts
       (λ replies ns ms told x. let r = meaning_of b replies in (
         kept_memory r b.config b.table ns a now views x.kept conn net d ms few next arrives app told,
-        (sound_comes r b.config Memory ns conn.0 m d (agrees_then replies ns x) whole x.kept.unlike x.kept.configured above arrives x.sound).0,
+        (sound_comes r b.config Memory ns conn.0 m d (agrees_then replies ns x) none whole x.kept.unlike x.kept.configured above arrives x.sound).0,
       ))
 
   -- the loop had too little memory for it, and noted that
   pub keep_no_room : (end : NetState) (t' : Option (List NoteValue)) → IsNoted t (note.no_room conn.0) t' → Shuts conn.0 net end → nat_eq (length h.entries) h.config.max_conns ≡ false
       → KeptAll b a now views None → KeptAll b (server h end t') now views None
-  keep_no_room end t' noted shuts room = keep_shut (note.no_room conn.0) (server h net t') end (told_one t t' (note.no_room conn.0) noted) whole (grows_noted (note.no_room conn.0) h h net t t' noted) shuts
+  keep_no_room end t' noted shuts room = keep_shut (note.no_room conn.0) (server h net t') end (λ c. refl) (told_one t t' (note.no_room conn.0) noted) whole (grows_noted (note.no_room conn.0) h h net t t' noted) shuts
       (λ replies ns ms told x. let r = meaning_of b replies in (
         kept_no_room r b.config b.table ns a now views x.kept conn net (server h net t') ms few next refl refl (told_one t t' (note.no_room conn.0) noted) told,
-        sound_no_room r b.config b.table ns a now views x.kept conn net next whole above x.sound room,
+        sound_no_room r b.config b.table ns a now views x.kept conn net next whole above none x.sound room,
       ))
 
   -- there are as many as there may be, which the loop noted
   pub keep_full : (end : NetState) (t' : Option (List NoteValue)) → IsNoted t (note.busy conn.0) t' → Shuts conn.0 net end → nat_eq (length h.entries) h.config.max_conns ≡ true
       → KeptAll b a now views None → KeptAll b (server h end t') now views None
-  keep_full end t' noted shuts full = keep_shut (note.busy conn.0) (server h net t') end (told_one t t' (note.busy conn.0) noted) whole (grows_noted (note.busy conn.0) h h net t t' noted) shuts
+  keep_full end t' noted shuts full = keep_shut (note.busy conn.0) (server h net t') end (λ c. refl) (told_one t t' (note.busy conn.0) noted) whole (grows_noted (note.busy conn.0) h h net t t' noted) shuts
       (λ replies ns ms told x. let r = meaning_of b replies in (
-        kept_full r b.config b.table ns a now views x.kept conn net next whole above x.sound few (server h net t') ms refl refl (told_one t t' (note.busy conn.0) noted) told,
-        sound_busy r b.config b.table ns a now views x.kept conn net next whole above x.sound full,
+        kept_full r b.config b.table ns a now views x.kept conn net next whole above none x.sound few (server h net t') ms refl refl (told_one t t' (note.busy conn.0) noted) told,
+        sound_busy r b.config b.table ns a now views x.kept conn net next whole above none x.sound full,
       ))
 
 -- ---- answers of the net, and the end of a turn
@@ -213,7 +168,7 @@ module _ {S : Type 0} (b : Beginning S) (h : HubState) (before net : NetState) (
   -- an answer that notes nothing
   keep_answer : (answer : NetEvent) → Nexts answer before net → ((replies : ℕ → List ℕ) (ns : List NoteValue) → Kept (meaning_of b replies) b.config b.table ns was now views None → Kept (meaning_of b replies) b.config b.table ns (server h net t) now views None)
       → KeptAll b was now views None → KeptAll b (server h net t) now views None
-  keep_answer answer next step = keep_on b was (server h net t) now now views views None None (grows_next answer h before net t next)
+  keep_answer answer next step = keep_on b was (server h net t) now now views views None None (grows_next answer h before net t next) (opens_same was (server h net t) refl)
       (λ replies ns ms known tells told agree few x.
       let is : ns ≡ ms = let z : Some ns ≡ Some ms = sym known ∙ told in cc in
       subst (λ (z : List NoteValue). Holds b replies z (server h net t) now views None) is (record { kept = step replies ns x.kept; sound = x.sound; whole = x.whole }))
@@ -227,21 +182,21 @@ module _ {S : Type 0} (b : Beginning S) (h : HubState) (before net : NetState) (
   keep_writable conn next = keep_answer (event.Writable conn) next (λ replies ns k. kept_writable (meaning_of b replies) b.config b.table ns was now views k conn net next)
 
   -- time went by
-  pub keep_tick : (d : Server) → Nexts event.Tick before net → length before.passed < 2 ^ 64 - 1 → Makes (note.tick ∷ []) (server h net t) d → Appends nothing (server h net t) d → IsTable (table_of d.hub)
+  pub keep_tick : (d : Server) → ((c : ℕ) → due_at h c ≡ None) → Nexts event.Tick before net → length before.passed < 2 ^ 64 - 1 → Makes (note.tick ∷ []) (server h net t) d → Appends nothing (server h net t) d → IsTable (table_of d.hub)
       → KeptAll b was now views None → KeptAll b d now views None
-  keep_tick d next few makes app whole =
+  keep_tick d none next few makes app whole =
       keep_notes b (note.tick ∷ []) was d now now views views None None (grows_then was (server h net t) d (grows_next event.Tick h before net t next) (grows_makes (note.tick ∷ []) (server h net t) d makes))
-      makes.advances.told whole
+      makes.advances.told (λ c. refl) whole
       (λ replies ns ms tells told x. let r = meaning_of b replies in (
         kept_tick r b.config b.table ns was now views x.kept net d ms few next makes app told x.whole whole,
-        sound_one r b.config ns note.tick (sound_nobody r b.config ns note.tick refl) x.sound,
+        sound_time r b.config ns was x.kept.agrees none x.sound,
       ))
 
   -- the turn ends
   pub keep_ended : (answer : NetEvent) (d : Server) → is_rest answer ≡ true → Nexts answer before net → length before.passed < 2 ^ 64 - 1 → EndsTurn (server h net t) d → Appends nothing (server h net t) d → IsTable (table_of d.hub)
       → KeptAll b was now views None → KeptAll b d now views None
   keep_ended answer d rest next few ends app whole =
-      keep_on b was d now now views views None None (grows_then was (server h net t) d (grows_next answer h before net t next) (grows_ended (server h net t) d ends))
+      keep_on b was d now now views views None None (grows_then was (server h net t) d (grows_next answer h before net t next) (grows_ended (server h net t) d ends)) (opens_then was (server h net t) d (grows_ended (server h net t) d ends) (opens_same was (server h net t) refl) (opens_ended (server h net t) d ends))
       (λ replies ns ms known tells told agree items x.
       let r = meaning_of b replies in
       let both = kept_turned r b.config b.table ns was now views x.kept answer net d ms ends rest few next app told x.whole whole in

@@ -1,40 +1,20 @@
 -- One event of the net, one turn, and turn after turn: what is kept, and what holds then.
-use Rattle.std.proofs.Common.{◌≡◌, ◌<◌, ◌≤◌, ◌+◌, ◌-◌, ◌^◌, ℕ, List, ◌∷◌, length, Option, Some, None, true, refl, sym, ◌∙◌, arith}
-use Rattle.std.specs.List.{list_all}
-use Rattle.ws_kinds.specs.ConfigValue.{ConfigValue}
-use Rattle.ws_kinds.specs.declared.handler.Handler.{Ghosts as HandlerMeaning}
-use Rattle.link_trait.specs.NetState.{NetState}
-use Rattle.link_trait.specs.Net.{Same, Nexts, passing}
-use Rattle.link_trait.specs.declared.net.NetEvent.{NetEvent}
-use Rattle.route_table.specs.Table.{RouteTable}
-use Rattle.hub_lines.specs.State.{Server}
-use Rattle.hub_notes.specs.Progress.{due_at}
-use Rattle.run_kept.specs.Kept.{IntakeView}
-use Rattle.run_kept.specs.Ends.{AreThere}
-use Rattle.run_kept.proofs.TurnLemmas.{rest_links}
-use Rattle.loop_runner.specs.declared.intakes.Intakes.{Intakes}
-use Rattle.loop_runner.specs.declared.turn.Turned.{Turned}
-use Rattle.loop_runner.specs.declared.turns.Ran.{Ran}
-use Rattle.loop_runner.specs.Keeps.{Beginning, KeptAll, IsRight, IsSettled, AreViews, beginning}
-use Rattle.loop_runner.specs.Moments.{Moment, with_net, IsKeptThen, Keeps, KeepsOn, TakesIn}
-use Rattle.loop_runner.specs.Ready.{Ready}
-use Rattle.loop_runner.specs.Steps.{Every, Grows, Onward, Running}
-use Rattle.loop_runner.specs.Turns.{is_between, ending, PassesBetween, PassesTurn, Runs}
-use Rattle.loop_runner.specs.Turning.{WhereKept, TakesEvent, EndsEvents, MakesTurn, MakesTurns, MakesRun}
+use Rattle.loop_runner.proofs.Below.{◌∷◌, [], ◌≡◌, ◌<◌, ◌≤◌, ◌+◌, ◌-◌, ◌^◌, ℕ, length, inl, Some, None, true, sym, ◌∙◌, arith, list_all, HandlerMeaning, NetState, Nexts, passing, NetEvent, RouteTable, due_at, AreThere, rest_links, Intakes, Turned, Ran, IsRight, IsSettled, beginning, Moment, with_net, IsKeptThen, Keeps, KeepsOn, Ready, Grows, Onward, NotesTurns, RisesBeyond, is_between, ending, PassesBetween, Runs, RunFailsAs, NotesRun, WhereKept, TakesEvent, EndsEvents, MakesTurn, MakesTurns, MakesRun}
 use Rattle.loop_runner.proofs.GrowLemmas.{grows_next, grows_then, grows_same}
 use Rattle.loop_runner.proofs.KeepLemmas.{where_told}
+use Rattle.loop_runner.proofs.NotedLemmas.{links_both, links_still, turns_both, turns_same}
 use Rattle.loop_runner.proofs.RightLemmas.{right_after, settled_told}
 use Rattle.loop_runner.proofs.StepLemmas.{onward_then}
 use Rattle.loop_runner.proofs.ThroughoutLemmas.{ending_rest, lived_after}
-use Rattle.loop_runner.proofs.TurnKeeps.{few_before, few_onward, few_passes, few_turned}
-use Rattle.loop_runner.proofs.TurnLemmas.{fails_ended, fails_then, passes_ended, passes_next, passes_onward, passes_then, passes_turn, there_next}
+use Rattle.loop_runner.proofs.TurnKeeps.{few_before, few_onward, few_passes}
+use Rattle.loop_runner.proofs.TurnLemmas.{fails_ended, fails_then, passes_ended, passes_next, passes_onward, passes_then, passes_turn, there_next, links_next}
 
 module _ {H : Type 0} {handler : HandlerMeaning H} (table : RouteTable) where
   -- ---- one event
 
   -- an event that ended no turn, and then the Closed events that were due
   pub event_between : (answer : NetEvent) (net : NetState) (before mid after : Intakes) (a s d : Moment handler) → Nexts answer net a.server.net → list_all is_between (passing answer) ≡ true → a.server.net.room < net.room
-      → Onward a.server s.server → (length net.passed < 2 ^ 64 - 1 → Keeps table before mid (with_net net a) s) → (AreThere (with_net net a).server → AreThere s.server)
+      → Onward 0 0 a.server s.server → (length net.passed < 2 ^ 64 - 1 → Keeps table before mid (with_net net a) s) → (AreThere (with_net net a).server → AreThere s.server)
       → KeepsOn mid after s d → ((c : ℕ) → due_at d.server.hub c ≡ None) → TakesEvent table None before after (with_net net a) d
   event_between answer net before mid after a s d next between fell first keep there close none =
       let onward = onward_then a.server s.server d.server first close.steps.onward in
@@ -44,9 +24,11 @@ module _ {H : Type 0} {handler : HandlerMeaning H} (table : RouteTable) where
           none = none;
           fell = let least = onward.room in omega arith;
           passed = passes_then net a.server.net d.server.net (passes_next answer net a.server.net next between) (passes_onward a.server d.server onward);
+          turns = onward.turns;
         };
         ended = tt {0};
         grows = grows_then (with_net net a).server a.server d.server (grows_next answer a.server.hub net a.server.net a.server.told next) onward.grows;
+        links = links_both 0 0 0 0 (with_net net a).server a.server d.server (links_next answer a.server.hub net a.server.net a.server.told next) onward.links onward.faults;
         there = λ t. close.steps.there (there t);
         kept = λ start config views few are k. where_told (beginning handler start config table) net after d views (onward.grows.tells ∙ next.net.tells) (λ told.
             let x = keep (few_before answer net a.server.net next told (few_onward a.server d.server onward (next.net.tells ∙ told) few)) start config views are k in
@@ -66,10 +48,12 @@ module _ {H : Type 0} {handler : HandlerMeaning H} (table : RouteTable) where
         ended = record {
           ready = x.ready;
           passed = passes_ended end a.server.hub net a.server.net a.server.told d.server next onward;
-          failed = fails_ended end net.faults a.server.net.faults d.server.net.faults next.faults onward.faults;
+          failed = fails_ended end a.server.hub net a.server.net a.server.told d.server next onward;
+          turns = onward.turns;
           last = x.last;
         };
         grows = grows_then (with_net net a).server a.server d.server (grows_next (ending end) a.server.hub net a.server.net a.server.told next) onward.grows;
+        links = links_both 0 0 0 0 (with_net net a).server a.server d.server (links_next (ending end) a.server.hub net a.server.net a.server.told next) onward.links onward.faults;
         there = λ t. x.steps.there (there_next (ending end) a.server.hub net a.server.net a.server.told next links.live t);
         kept = λ start config views fewer are k. where_told (beginning handler start config table) net after d views same (λ told. x.kept table (ending end) (ending_rest end) net next (few told fewer) start config views are k);
         settled = λ start config views fewer are k there. settled_told (beginning handler start config table) net d.server same (λ told. x.settled table (ending end) (ending_rest end) net next (few told fewer) start config views are k there);
@@ -96,10 +80,10 @@ module _ {H : Type 0} {handler : HandlerMeaning H} (table : RouteTable) where
       let x = kept start config views few are k in right_after (beginning handler start config table) d.server d.now x.0 x.2 ready.settled
 
   -- a turn, by its events and the last of them
-  pub turn_made : (end : Turned) (before mid after : Intakes) (a s d : Moment handler) → PassesBetween a.server.net s.server.net → Grows a.server s.server → (AreThere a.server → AreThere s.server)
+  pub turn_made : (end : Turned) (before mid after : Intakes) (a s d : Moment handler) → PassesBetween a.server.net s.server.net → NotesTurns 0 a.server.told s.server.told → RisesBeyond 0 0 a.server s.server → Grows a.server s.server → (AreThere a.server → AreThere s.server)
       → WhereKept table before a s (IsKeptThen mid s) → TakesEvent table (Some end) mid after s d → MakesTurn table end before after a d
-  turn_made end before mid after a s d between grown there kept x =
-      let fewer = few_turned end s.server.net d.server.net x.ended.passed in
+  turn_made end before mid after a s d between turns links grown there kept x =
+      let fewer = few_passes (ending end ∷ []) s.server.net d.server.net x.ended.passed in
       let grows = grows_then a.server s.server d.server grown x.grows in
       let passed = passes_turn end a.server.net s.server.net d.server.net between x.ended.passed in
       let keeps = kept_then before mid after a s d x.ended.passed.tells fewer kept x.kept in
@@ -107,8 +91,10 @@ module _ {H : Type 0} {handler : HandlerMeaning H} (table : RouteTable) where
       record {
         ready = x.ended.ready;
         passed = passed;
-        failed = fails_then end a.server.net.faults s.server.net.faults d.server.net.faults between.faults x.ended.passed.faults x.ended.failed;
+        failed = fails_then end a.server s.server d.server between.faults links x.ended.passed.faults x.ended.failed;
         grows = grows;
+        links = links_both 0 0 0 0 a.server s.server d.server links x.links x.ended.passed.faults;
+        turns = turns_both 0 1 a.server.told s.server.told d.server.told turns x.ended.turns;
         kept = keeps;
         right = right;
         there = λ t. x.there (there t);
@@ -124,6 +110,8 @@ module _ {H : Type 0} {handler : HandlerMeaning H} (table : RouteTable) where
   turns_none intakes m ready = record {
     ready = ready;
     grows = grows_same m.server;
+    links = links_still 0 m.server.hub m.server.hub m.server.net m.server.net m.server.told (inl (omega arith));
+    turns = turns_same m.server.told;
     kept = λ start config views few are k. (views, are, k);
     there = λ t. t;
     settled = λ one. absurd (omega (arith, one));
@@ -133,10 +121,12 @@ module _ {H : Type 0} {handler : HandlerMeaning H} (table : RouteTable) where
 
   pub turns_then : (made : ℕ) (end : Turned) (before mid after : Intakes) (a s d : Moment handler) → MakesTurns table made before mid a s → MakesTurn table end mid after s d → MakesTurns table (made + 1) before after a d
   turns_then made end before mid after a s d x y =
-      let fewer = few_turned end s.server.net d.server.net y.passed in
+      let fewer = few_passes (ending end ∷ []) s.server.net d.server.net y.passed in
       record {
         ready = y.ready;
         grows = grows_then a.server s.server d.server x.grows y.grows;
+        links = links_both 0 0 0 0 a.server s.server d.server x.links y.links y.passed.faults;
+        turns = turns_both made 1 a.server.told s.server.told d.server.told x.turns y.turns;
         kept = kept_then before mid after a s d y.passed.tells fewer x.kept y.kept;
         there = λ t. y.there (x.there t);
         settled = λ one. settled_then before mid after a s d y.passed.tells fewer x.kept x.there y.settled;
@@ -148,11 +138,13 @@ module _ {H : Type 0} {handler : HandlerMeaning H} (table : RouteTable) where
       }
 
   -- a run, by the turns that were made
-  pub run_made : (end : Ran) (turns made : ℕ) (before after : Intakes) (a d : Moment handler) → (1 ≤ turns → 1 ≤ made) → Runs end turns a.server.net d.server.net → MakesTurns table made before after a d
+  pub run_made : (end : Ran) (turns made : ℕ) (before after : Intakes) (a d : Moment handler) → (1 ≤ turns → 1 ≤ made) → Runs end turns a.server.net d.server.net → RunFailsAs end a.server d.server → NotesRun end turns a.server.told d.server.told → MakesTurns table made before after a d
       → MakesRun table end turns before after a d
-  run_made end turns made before after a d some runs x = record {
+  run_made end turns made before after a d some runs failed noted x = record {
     ready = x.ready;
     runs = runs;
+    failed = failed;
+    noted = noted;
     grows = x.grows;
     kept = x.kept;
     right = right_then before after a d x.kept x.ready;

@@ -1,18 +1,5 @@
 -- Views of intakes.
-use Rattle.std.proofs.Common.{◌≡◌, ◌≢◌, ⊎_elim, ℕ, List, Option, Some, None, Bool, true, false, cond, is_some, nat_eq, refl, sym, ap, ◌∙◌, subst, arith}
-use Rattle.std.specs.Prelude.{IsSome}
-use Rattle.std.specs.Ordering.{nat_cmp}
-use Rattle.std.specs.BTreeMap.{is_at, WritesThrough}
-use Rattle.std.proofs.lemmas.Bool.{cases_eq}
-use Rattle.std.proofs.lemmas.Bool.Decides.{nat_tests}
-use Rattle.wire_meaning.specs.Event.{Event}
-use Rattle.hub_lines.specs.State.{HubState, has_entry}
-use Rattle.run_laws.specs.Readers.{ReaderView, IsFed, IsRead}
-use Rattle.run_kept.specs.Kept.{IntakeView, SameButReader}
-use Rattle.loop_runner.specs.declared.intakes.Intake.{Intake}
-use Rattle.loop_runner.specs.declared.intakes.Intakes.{Intakes}
-use Rattle.loop_runner.specs.Intakes.{intake_at, is_admitted, IsNew, ChangesIntake, SameIntakes}
-use Rattle.loop_runner.specs.Keeps.{AreViews, intake_view, view_by, with_view}
+use Rattle.loop_runner.proofs.Below.{◌≡◌, ◌≢◌, ⊎_elim, ℕ, List, Option, Some, None, Bool, true, false, cond, is_some, nat_eq, refl, sym, ap, ◌∙◌, subst, arith, IsSome, nat_cmp, is_at, WritesThrough, cases_eq, nat_tests, Event, HubState, has_entry, ReaderView, IsFed, IsRead, IntakeView, SameButReader, Intake, Intakes, intake_at, is_admitted, IsNew, ChangesIntake, SameIntakes, AreViews, intake_view, view_by, with_view}
 
 -- ---- one of them is another
 
@@ -65,10 +52,10 @@ module _ (c route : ℕ) (param : List ℕ) (before after : ReaderView) (vs : �
 
 -- ---- of intakes
 
-none_some : (x : Option Intake) (i : Intake) → x ≡ None → x ≡ Some i → ⊥
+pub none_some : (x : Option Intake) (i : Intake) → x ≡ None → x ≡ Some i → ⊥
 none_some x i n s = let z : None ≡ Some i = sym n ∙ s in absurd cc
 
-same_some : (x y : Intake) → Some x ≡ Some y → x ≡ y
+pub same_some : (x y : Intake) → Some x ≡ Some y → x ≡ y
 same_some x y e = cc
 
 pub views_same : (old new : Intakes) (vs : ℕ → IntakeView) → SameIntakes old new → AreViews old vs → AreViews new vs

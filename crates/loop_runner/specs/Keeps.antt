@@ -11,7 +11,7 @@ use Rattle.frame_reader.specs.declared.reader.Reader.{Reader}
 use Rattle.run_meaning.specs.Server as run
 use Rattle.run_meaning.specs.Server.{served_by, every_topic}
 use Rattle.run_meaning.specs.Lines.{plain}
-use Rattle.run_meaning.specs.Replies.{AreReplies}
+use Rattle.run_meaning.specs.Replies.{AreAdmitted, AreReplies, HasReplies}
 use Rattle.run_meaning.specs.Settled.{Settled}
 use Rattle.run_meaning.specs.Life.{LivedThroughout}
 use Rattle.run_meaning.specs.Right.{Right}
@@ -80,13 +80,22 @@ abbrev pub ForReplies : {State : Type 0} → Beginning State → Server → ((�
 ForReplies b s P = (notes : List NoteValue) → s.told ≡ Some notes → s.net.tells ≡ true → (replies : ℕ → List ℕ) → AreReplies b.table notes s.net.given replies
     → AreFew (meaning_of b replies) notes → P replies notes
 
+-- where net and watch tell, and where items are few with whatever texts: this holds of the notes
+abbrev pub ForNotes : {State : Type 0} → Beginning State → Server → (List NoteValue → Type 0) → Type 0
+ForNotes b s P = (notes : List NoteValue) → s.told ≡ Some notes → s.net.tells ≡ true → ((replies : ℕ → List ℕ) → AreFew (meaning_of b replies) notes) → P notes
+
 -- of the connection that is being read, if there is one, more may be told
-abbrev pub KeptAll : {State : Type 0} → Beginning State → Server → State → (ℕ → IntakeView) → Option ℕ → Type 0
-KeptAll b s now views reading = ForReplies b s (λ replies notes. Holds b replies notes s now views reading)
+pub record KeptAll {State : Type 0} (b : Beginning State) (s : Server) (now : State) (views : ℕ → IntakeView) (reading : Option ℕ) : Type 0 where
+  -- so there are texts that agree with the judging
+  pub admitted : ForNotes b s (λ notes. AreAdmitted b.table notes s.net.given)
+  pub holds : ForReplies b s (λ replies notes. Holds b replies notes s now views reading)
 
 -- After a turn: the run is right, with what is held for the connections that are not gone.
-abbrev pub IsRight : {State : Type 0} → Beginning State → Server → State → Type 0
-IsRight b s now = ForReplies b s (λ replies notes. Right (meaning_of b replies) b.config b.table notes s.net now (backlog_at s.hub))
+pub record IsRight {State : Type 0} (b : Beginning State) (s : Server) (now : State) : Type 0 where
+  -- there are texts that agree with the judging
+  pub texts : ForNotes b s (λ notes. HasReplies b.table notes s.net.given)
+  -- and for all such texts the relation holds
+  pub right : ForReplies b s (λ replies notes. Right (meaning_of b replies) b.config b.table notes s.net now (backlog_at s.hub))
 
 -- The same of what is settled after a turn: no frame waits, and what is held is what the links of those who are not gone did not
 -- take.

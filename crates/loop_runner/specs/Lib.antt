@@ -7,3 +7,4 @@ pub mod Turns
 pub mod Keeps
 pub mod Moments
 pub mod Turning
+pub mod All

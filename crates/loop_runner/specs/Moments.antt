@@ -107,7 +107,7 @@ pub record KeepsOn {H : Type 0} {handler : HandlerMeaning H} (before after : Int
 -- A connection came, as the net answered: it was taken in, or turned away.
 pub record TakesIn {H : Type 0} {handler : HandlerMeaning H} (answer : NetEvent) (before after : Intakes) (old new : Moment handler) : Type 0 where
   pub running : Running Every after new.server
-  pub onward : Onward old.server new.server
+  pub onward : Onward 0 0 old.server new.server
   pub there : (net : NetState) → Nexts answer net old.server.net → AreThere (with_net net old).server → AreThere new.server
   pub kept : (table : RouteTable) → KeepsNext answer table before after old new
 

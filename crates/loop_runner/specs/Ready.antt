@@ -9,7 +9,6 @@ use Rattle.frame_reader.specs.Reader.{raw_of, ahead, has_ended, is_unread}
 use Rattle.hub_lines.specs.State.{Server, has_entry, phase_at}
 use Rattle.hub_lines.specs.Calls.{Ties, Settled, ShortRings}
 use Rattle.hub_notes.specs.Fronts.{RingsWait}
-use Rattle.hub_notes.specs.Table.{IsTable, table_of}
 use Rattle.loop_runner.specs.declared.intakes.Intake.{Intake}
 use Rattle.loop_runner.specs.declared.intakes.Intakes.{Intakes}
 use Rattle.loop_runner.specs.Intakes.{max_of, intake_at, is_admitted}
@@ -34,7 +33,6 @@ pub record Ready (intakes : Intakes) (s : Server) : Type 0 where
   pub max : s.hub.config.max_message ≡ max_of intakes
   -- the entries and the intakes are the same connections
   pub entries : (conn : ℕ) → has_entry s.hub.entries conn ≡ is_admitted intakes conn
-  pub table : IsTable (table_of s.hub)
   pub ties : Ties s
   -- the net named every number that was accepted
   pub named : s.hub.named ≤ s.net.named

@@ -3,7 +3,10 @@ use Rattle.std.specs.Prelude.{◌≡◌, ◌≢◌, ◌≤◌, ◌⊎◌, ◌+�
 use Rattle.ws_kinds.specs.declared.note.Phase.{Phase}
 use Rattle.ws_kinds.specs.declared.note.Phase.TheVariants.{Head, Open, Leaving}
 use Rattle.ws_kinds.specs.NoteValue.{NoteValue}
+use Rattle.run_meaning.specs.Counts.{number_of}
 use Rattle.run_meaning.specs.Lines.{is_open}
+use Rattle.run_meaning.specs.Notes.{is_turn}
+use Rattle.run_meaning.specs.Performs.{is_link_failure}
 use Rattle.run_meaning.specs.Settled.{is_reading}
 use Rattle.frame_reader.specs.declared.reader.Reader.{Reader}
 use Rattle.frame_reader.specs.Reader as reader
@@ -33,16 +36,29 @@ pub record Grows (old new : Server) : Type 0 where
   pub told : (after : List NoteValue) → new.told ≡ Some after → (notes : List NoteValue) × (later : List NoteValue) × (old.told ≡ Some notes) × (after ≡ notes ++ later)
   pub given : old.net.tells ≡ true → (conn : ℕ) → (behind : List ℕ) × (new.net.given conn ≡ old.net.given conn ++ behind)
 
--- the count of faults did not fall, unless it stands at its end
-abbrev pub Rises : ℕ → ℕ → Type 0
-Rises old new = (old ≤ new) ⊎ (2 ^ 64 - 1 ≤ new)
+-- where the watch tells: it told before, and this holds of the notes then and now
+abbrev pub OfNotes : Option (List NoteValue) → Option (List NoteValue) → (List NoteValue → List NoteValue → Type 0) → Type 0
+OfNotes old new P = (after : List NoteValue) → new ≡ Some after → (notes : List NoteValue) × (old ≡ Some notes) × P notes after
 
--- what every step keeps, also one that takes a connection in: the net was not asked what is next
-pub record Onward (old new : Server) : Type 0 where
+-- so many Turn notes were added
+abbrev pub NotesTurns : ℕ → Option (List NoteValue) → Option (List NoteValue) → Type 0
+NotesTurns count old new = OfNotes old new (λ notes after. number_of is_turn after ≡ number_of is_turn notes + count)
+
+-- the count of faults rose by one for each link that failed by the notes that were added, and by `more`, but for `owed` of them;
+-- or it stands at its end
+abbrev pub RisesBeyond : ℕ → ℕ → Server → Server → Type 0
+RisesBeyond more owed old new = OfNotes old.told new.told (λ notes after.
+    (old.net.faults + number_of is_link_failure after + more ≤ new.net.faults + number_of is_link_failure notes + owed) ⊎ (2 ^ 64 - 1 ≤ new.net.faults))
+
+-- What every step keeps, also one that takes a connection in: the net was not asked what is next. It notes so many turns, and so many
+-- links that failed before it.
+pub record Onward (count owed : ℕ) (old new : Server) : Type 0 where
   pub grows : Grows old new
+  pub turns : NotesTurns count old.told new.told
   pub room : new.net.room ≤ old.net.room
   pub passed : old.net.tells ≡ true → new.net.passed ≡ old.net.passed
-  pub faults : Rises old.net.faults new.net.faults
+  pub faults : old.net.faults ≤ new.net.faults
+  pub links : RisesBeyond 0 owed old new
 
 -- how many Closed events a connection can still have: one while it is open, and one that is due
 abbrev pub weight_of : Progress → ℕ
@@ -65,8 +81,8 @@ abbrev pub StaysOrLeaves : Option Phase → Option Phase → Type 0
 StaysOrLeaves old new = (new ≡ old) ⊎ ((old ≡ Some Open) × (new ≡ Some Leaving))
 
 -- what a step that takes no connection in keeps, and what it keeps of these connections
-pub record Steps (P : ℕ → Type 0) (old new : Server) : Type 0 where
-  pub onward : Onward old new
+pub record StepsWith (count owed : ℕ) (P : ℕ → Type 0) (old new : Server) : Type 0 where
+  pub onward : Onward count owed old new
   pub config : new.hub.config ≡ old.hub.config
   pub named : new.hub.named ≡ old.hub.named
   pub net_named : new.net.named ≡ old.net.named
@@ -82,6 +98,10 @@ pub record Steps (P : ℕ → Type 0) (old new : Server) : Type 0 where
   pub due : (conn : ℕ) → P conn → is_reading (phase_at new.hub conn) ≡ true → new.net.due conn ≡ old.net.due conn
   pub phase : (conn : ℕ) → P conn → is_reading (phase_at new.hub conn) ≡ true → StaysOrLeaves (phase_at old.hub conn) (phase_at new.hub conn)
   pub weight : (conn : ℕ) → P conn → weight_at new.hub conn ≤ weight_at old.hub conn
+
+-- the same of one that notes no turn, and no link that failed before it
+abbrev pub Steps : (ℕ → Type 0) → Server → Server → Type 0
+Steps P old new = StepsWith 0 0 P old new
 
 -- Octets of a connection were taken, with the reader that becomes `after`: all that came of it was taken, but for what waits
 -- for more, and none are ready.

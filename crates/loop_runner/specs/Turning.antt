@@ -14,8 +14,8 @@ use Rattle.loop_runner.specs.declared.turn.Turned.{Turned}
 use Rattle.loop_runner.specs.declared.turns.Ran.{Ran}
 use Rattle.loop_runner.specs.Keeps.{Beginning, beginning, KeptAll, AreViews, IsRight, IsSettled, IsLivedThroughout, EndsWithTurn}
 use Rattle.loop_runner.specs.Ready.{Ready}
-use Rattle.loop_runner.specs.Steps.{Every, Grows, Steps, Running}
-use Rattle.loop_runner.specs.Turns.{PassesBetween, PassesTurn, FailsAs, Runs}
+use Rattle.loop_runner.specs.Steps.{Every, Grows, NotesTurns, RisesBeyond, StepsWith, Running}
+use Rattle.loop_runner.specs.Turns.{PassesBetween, PassesTurn, FailsAs, Runs, RunFailsAs, NotesRun}
 use Rattle.loop_runner.specs.Moments.{Moment, IsKeptThen, KeepsNext, SettlesNext}
 
 -- where it was kept before, for a beginning with these routes, and few answers of the net were counted, this holds
@@ -29,12 +29,14 @@ pub record Between (intakes : Intakes) (old new : Server) : Type 0 where
   pub none : (conn : ℕ) → due_at new.hub conn ≡ None
   pub fell : new.net.room < old.net.room
   pub passed : PassesBetween old.net new.net
+  pub turns : NotesTurns 0 old.told new.told
 
 -- an event of the net that ended the turn
 pub record Ended (end : Turned) (intakes : Intakes) (old new : Server) : Type 0 where
   pub ready : Ready intakes new
   pub passed : PassesTurn end old.net new.net
-  pub failed : FailsAs end old.net.faults new.net.faults
+  pub failed : FailsAs end old new
+  pub turns : NotesTurns 1 old.told new.told
   pub last : EndsWithTurn new.told
 
 -- one event of the net, by how it ended the turn, if it did
@@ -42,6 +44,7 @@ pub record TakesEvent {H : Type 0} {handler : HandlerMeaning H} (table : RouteTa
   pub between : IfNone end (Between after old.server new.server)
   pub ended : IfSome end (λ turned. Ended turned after old.server new.server)
   pub grows : Grows old.server new.server
+  pub links : RisesBeyond 0 0 old.server new.server
   pub there : AreThere old.server → AreThere new.server
   pub kept : WhereKept table before old new (IsKeptThen after new)
   pub settled : IfSome end (λ turned. WhereKept table before old new (λ b. AreThere old.server → IsSettled b new.server))
@@ -49,7 +52,7 @@ pub record TakesEvent {H : Type 0} {handler : HandlerMeaning H} (table : RouteTa
 -- the end of a turn, after an answer of the net that ended it
 pub record EndsEvents {H : Type 0} {handler : HandlerMeaning H} (before after : Intakes) (old new : Moment handler) : Type 0 where
   pub ready : Ready after new.server
-  pub steps : Steps Every old.server new.server
+  pub steps : StepsWith 1 0 Every old.server new.server
   pub last : EndsWithTurn new.server.told
   pub kept : (table : RouteTable) (answer : NetEvent) → is_rest answer ≡ true → KeepsNext answer table before after old new
   pub settled : (table : RouteTable) (answer : NetEvent) → is_rest answer ≡ true → SettlesNext answer table before old new
@@ -58,8 +61,10 @@ pub record EndsEvents {H : Type 0} {handler : HandlerMeaning H} (before after : 
 pub record MakesTurn {H : Type 0} {handler : HandlerMeaning H} (table : RouteTable) (end : Turned) (before after : Intakes) (old new : Moment handler) : Type 0 where
   pub ready : Ready after new.server
   pub passed : PassesTurn end old.server.net new.server.net
-  pub failed : FailsAs end old.server.net.faults new.server.net.faults
+  pub failed : FailsAs end old.server new.server
   pub grows : Grows old.server new.server
+  pub links : RisesBeyond 0 0 old.server new.server
+  pub turns : NotesTurns 1 old.server.told new.server.told
   pub kept : WhereKept table before old new (IsKeptThen after new)
   pub right : WhereKept table before old new (λ b. IsRight b new.server new.now)
   pub there : AreThere old.server → AreThere new.server
@@ -71,6 +76,8 @@ pub record MakesTurn {H : Type 0} {handler : HandlerMeaning H} (table : RouteTab
 pub record MakesTurns {H : Type 0} {handler : HandlerMeaning H} (table : RouteTable) (made : ℕ) (before after : Intakes) (old new : Moment handler) : Type 0 where
   pub ready : Ready after new.server
   pub grows : Grows old.server new.server
+  pub links : RisesBeyond 0 0 old.server new.server
+  pub turns : NotesTurns made old.server.told new.server.told
   pub kept : WhereKept table before old new (IsKeptThen after new)
   pub there : AreThere old.server → AreThere new.server
   pub settled : 1 ≤ made → WhereKept table before old new (λ b. AreThere old.server → IsSettled b new.server)
@@ -81,6 +88,8 @@ pub record MakesTurns {H : Type 0} {handler : HandlerMeaning H} (table : RouteTa
 pub record MakesRun {H : Type 0} {handler : HandlerMeaning H} (table : RouteTable) (end : Ran) (turns : ℕ) (before after : Intakes) (old new : Moment handler) : Type 0 where
   pub ready : Ready after new.server
   pub runs : Runs end turns old.server.net new.server.net
+  pub failed : RunFailsAs end old.server new.server
+  pub noted : NotesRun end turns old.server.told new.server.told
   pub grows : Grows old.server new.server
   pub kept : WhereKept table before old new (IsKeptThen after new)
   pub right : WhereKept table before old new (λ b. IsRight b new.server new.now)

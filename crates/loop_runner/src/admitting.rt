@@ -107,7 +107,7 @@ fn name_of(octets: &[u8]) -> Name
     ensures { result.items ≡ octets.now }
 {
     let mut name = Name::new();
-    let _ = name.try_extend_from_slice(octets);
+    name.try_extend_from_slice(octets).unwrap();
     name
 }
 

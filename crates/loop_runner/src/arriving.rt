@@ -1,10 +1,11 @@
 //! Connections that come.
 
-ghost use Rattle.std.specs.Prelude.{◌≡◌, ◌<◌, ◌≤◌, None, true, false};
+ghost use Rattle.std.specs.Prelude.{◌≡◌, ◌<◌, ◌≤◌, ℕ, None, true, false};
 ghost use Rattle.ws_kinds.specs.NoteValue.{note_value};
 ghost use Rattle.ws_kinds.specs.Watch.{IsNoted};
 ghost use Rattle.link_trait.specs.Net.{Shuts};
 ghost use Rattle.link_trait.specs.declared.net.NetEvent.TheVariants as answer;
+ghost use Rattle.hub_notes.specs.Progress.{due_at};
 ghost use Rattle.hub_core.specs.At.{at};
 ghost use Rattle.loop_runner.specs.Intakes.{intake_at, ChangesIntake};
 ghost use Rattle.loop_runner.specs.Steps.{Every, Running};
@@ -15,7 +16,7 @@ use hub_core::{Arrival, Hub};
 use link_trait::{Net, Outside};
 use ws_kinds::{Conn, Handler, Note, Watch};
 
-/// Takes in a connection that came: it has an intake, and the hub accepts it. Where either is refused, both are as before, the
+/// Takes in a connection that came, while no Closed event is due: it has an intake, and the hub accepts it. Where either is refused, both are as before, the
 /// refusal is noted, and its link is shut. The handler is not asked: it stands here for what is kept beside its state.
 pub(crate) fn arrive<N: Net, W: Watch, H: Handler>(
     hub: &mut Hub,
@@ -24,6 +25,7 @@ pub(crate) fn arrive<N: Net, W: Watch, H: Handler>(
     handler: &H,
     conn: Conn,
 )
+    requires none { (other : ℕ) → due_at hub.old other ≡ None }
     requires new { hub.old.named < conn.0 }
     requires named { conn.0 ≤ (N.state out.old.net).named }
     requires live { (N.state out.old.net).live conn.0 ≡ true }

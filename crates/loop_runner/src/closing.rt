@@ -6,7 +6,7 @@ ghost use Rattle.hub_lines.specs.State.{HubState, has_entry};
 ghost use Rattle.hub_lines.specs.Calls.{Ties};
 ghost use Rattle.hub_notes.specs.Progress.{due_at};
 ghost use Rattle.hub_notes.specs.Table.{IsTable, table_of};
-ghost use Rattle.hub_core.specs.Parting.{parting_value};
+ghost use Rattle.hub_table.specs.Parting.{parting_value};
 ghost use Rattle.hub_core.specs.At.{at};
 ghost use Rattle.run_kept.specs.Kept.{IntakeView};
 ghost use Rattle.loop_runner.specs.Intakes.{max_of, intake_at, is_admitted};

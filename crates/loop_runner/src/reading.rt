@@ -8,6 +8,7 @@ ghost use Rattle.frame_reader.specs.Reader.{room_of};
 ghost use Rattle.run_meaning.specs.Settled.{is_reading};
 ghost use Rattle.hub_lines.specs.State.{phase_at};
 ghost use Rattle.hub_lines.specs.Calls.{Ties};
+ghost use Rattle.hub_notes.specs.Progress.{due_at};
 ghost use Rattle.hub_core.specs.At.{at};
 ghost use Rattle.loop_runner.specs.Intakes.{intake_at};
 ghost use Rattle.loop_runner.specs.Ready.{IsTaken};
@@ -26,7 +27,8 @@ use ws_kinds::{Conn, Handler, Phase, Watch};
 /// The most octets of one read.
 const MOST_OCTETS: usize = 8_192;
 
-/// Reads once from a connection in phase Head, Open or Leaving, and takes what the octets say. Of any other nothing is read.
+/// Reads once from a connection in phase Head, Open or Leaving, and takes what the octets say. Of any other nothing is read. No Closed
+/// event is due before the read.
 pub(crate) fn readable<N: Net, W: Watch, H: Handler>(
     hub: &mut Hub,
     intakes: &mut Intakes,
@@ -35,6 +37,7 @@ pub(crate) fn readable<N: Net, W: Watch, H: Handler>(
     handler: &mut H,
     conn: Conn,
 )
+    requires none { (other : ℕ) → due_at hub.old other ≡ None }
     requires taken { (intake : _) → intake_at intakes.old conn.0 ≡ Some intake → IsTaken (phase_at hub.old conn.0) intake.reader }
     requires running { Running (But conn.0) intakes.old (at N.Net W.Watch hub.old out.old) }
     ensures running { Running Every intakes.new (at N.Net W.Watch hub.new out.new) }
@@ -72,6 +75,7 @@ fn read<N: Net, W: Watch, H: Handler>(
     handler: &mut H,
     conn: Conn,
 )
+    requires none { (other : ℕ) → due_at hub.old other ≡ None }
     requires reading { is_reading (phase_at hub.old conn.0) ≡ true }
     requires taken { IsTaken (phase_at hub.old conn.0) intake.old.reader }
     requires ties { Ties (at N.Net W.Watch hub.old out.old) }
@@ -101,6 +105,7 @@ fn take<N: Net, W: Watch, H: Handler>(
 )
     requires some { 1 ≤ length octets.now }
     requires room { length octets.now ≤ room_of intake.old.reader }
+    requires none { (other : ℕ) → due_at hub.old other ≡ None }
     requires reading { is_reading (phase_at hub.old conn.0) ≡ true }
     requires taken { IsTaken (phase_at hub.old conn.0) intake.old.reader }
     requires asked { (N.state out.old.net).due conn.0 ≡ false }

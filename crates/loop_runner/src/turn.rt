@@ -5,7 +5,7 @@ ghost use Rattle.hub_notes.specs.Progress.{due_at};
 ghost use Rattle.hub_core.specs.At.{at};
 ghost use Rattle.loop_runner.specs.Ready.{Ready};
 ghost use Rattle.loop_runner.specs.Steps.{Every, Running};
-ghost use Rattle.loop_runner.specs.Moments.{moment};
+ghost use Rattle.loop_runner.specs.Moments.{moment, KeepsOn};
 ghost use Rattle.loop_runner.specs.Turning.{TakesEvent, EndsEvents, MakesTurn};
 
 use crate::arriving::arrive;
@@ -36,12 +36,13 @@ pub enum Turned {
 ///
 /// The hub and the intakes have to be ready, as they are when both are new and as this leaves them: they have the same
 /// connections and the same limit of a message's octets, the net named each of them, no frame is pending, and what came of each
-/// connection was taken. A turn ends as `Failed` only where the net counted a fault in it.
+/// connection was taken. A turn ends as `Failed` only where the net counted a fault in it, and where the watch tells, one fault more
+/// than links failed by the notes (`failed`). One Turn note is added, where the watch tells (`turns`).
 ///
 /// What is kept before the turn is kept after it (`kept`), and then the run is right (`right`): what the handler was given is what
-/// the octets say, and what each link took, with what is held, is what was sent. Where at the end of each earlier turn the handler
-/// had been given what the octets read until then say, it was so at the end of this one too (`throughout`), with which the notes
-/// end (`last`). Where besides each link that was live is that of an entry which is not gone, it is so afterwards (`there`), and all
+/// the octets say, and what each link took, with what is held, is what was sent. Nothing came from outside between a connection's
+/// leaving Open and its Closed event. Where at the end of each earlier turn the handler had been given what the octets read until
+/// then say, it was so at the end of this one too (`throughout`), with which the notes end (`last`). Where besides each link that was live is that of an entry which is not gone, it is so afterwards (`there`), and all
 /// is settled (`settled`): what was ready was read, and the handler was told of each connection that left Open, but for those that
 /// left as the turn ended. This is said for nets and watches that tell, and where fewer than 2^64 - 1 answers of the net and items
 /// of a connection were counted.
@@ -55,14 +56,30 @@ pub fn run_turn<N: Net, W: Watch, H: Handler>(
     requires { Ready intakes.old (at N.Net W.Watch hub.old out.old) }
     ensures { let seen = moment N.Net W.Watch H.Handler in MakesTurn routes.now result intakes.old intakes.new (seen hub.old out.old handler.old) (seen hub.new out.new handler.new) }
 {
-    // Those that are due since the last turn.
-    close_all(hub, intakes, out, handler);
+    begin(hub, intakes, out, handler);
     'events: loop {
         match take_event(hub, intakes, routes, out, handler) {
             None => {}
             Some(turned) => return turned,
         }
     }
+}
+
+/// Gives the Closed events that are due since the last turn. Where nobody is an entry, none is.
+fn begin<N: Net, W: Watch, H: Handler>(
+    hub: &mut Hub,
+    intakes: &mut Intakes,
+    out: &mut Outside<N, W>,
+    handler: &mut H,
+)
+    requires { Ready intakes.old (at N.Net W.Watch hub.old out.old) }
+    ensures none { (conn : ℕ) → due_at hub.new conn ≡ None }
+    ensures keeps { let seen = moment N.Net W.Watch H.Handler in KeepsOn intakes.old intakes.new (seen hub.old out.old handler.old) (seen hub.new out.new handler.new) }
+{
+    if hub.count() == 0 {
+        return;
+    }
+    close_all(hub, intakes, out, handler);
 }
 
 /// Takes the next event, and gives the Closed events that are due then. Answers how the turn ended, if it did.

@@ -25,7 +25,9 @@ pub enum Ran {
 
 /// Makes turns, until nothing will come any more, the net has a fault, or so many were made. Where `turns` is 0, none is made.
 ///
-/// Each turn but the last ended with Turn, and the last as the answer says: with Stop, with Turn, or with Failed (`runs`).
+/// Each turn but the last ended with Turn, and the last as the answer says: with Stop, with Turn, or with Failed, where the net tells
+/// (`runs`). Where the watch tells, as many Turn notes were added as turns were made (`noted`), also over a net that tells nothing. The
+/// answer NetFault comes only where the net counted a fault, as [`run_turn`] says it of Failed (`failed`).
 ///
 /// The hub and the intakes have to be ready, as for [`run_turn`], and are so afterwards. What was kept before the run is kept
 /// after it (`kept`), and then the run is right (`right`), as [`run_turn`] says it of one turn; and it was so, of what the handler

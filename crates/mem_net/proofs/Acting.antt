@@ -1,27 +1,12 @@
 -- What each act of a schedule does to a net in memory.
-use Rattle.std.proofs.Common.{◌≡◌, ◌≢◌, ℕ, zero, suc, ◌+◌, ◌-◌, ◌^◌, ◌<◌, ◌≤◌, List, [], ◌∷◌, ◌++◌, ◌&&◌, ◌||◌, not, length, take, drop, get_or, min, Bool, true, false, Option, Some, None, is_none, nat_eq, nat_le, slice_get, slice_set, refl, sym, ◌∙◌, ap, arith, length-append, take-append-drop, if◌then◌else◌}
-use Rattle.std.specs.List.{list_any, list_all}
-use Rattle.std.proofs.lemmas.Bool.Decides.{nat_tests}
-use Rattle.mem_net.specs.Schedule.{is_arrival, is_rising, has_arrived, has_ended, can_send, is_sound_after, is_sound, is_plain}
-use Rattle.mem_net.specs.LinkState.{LinkState, new_link, is_ready, is_finish, comes, finishes}
-use Rattle.mem_net.specs.Acts.{sent, sent_by, finish_by, passes_by, arrives_by, arrivals}
-use Rattle.mem_net.specs.MemNet.{MemNetState, link_at, LinkFollows, AllTold, FollowsSchedule}
-use Rattle.mem_net.specs.MemSteps.{IsSending, IsFinishing, Does}
-use Rattle.link_trait.specs.declared.act.Act.{Act}
+use Rattle.mem_net.proofs.Below.{◌≡◌, ◌≢◌, ℕ, zero, suc, ◌+◌, ◌-◌, ◌^◌, ◌<◌, ◌≤◌, List, [], ◌∷◌, ◌++◌, ◌&&◌, ◌||◌, not, length, take, drop, get_or, min, Bool, true, false, Option, Some, None, is_none, nat_eq, nat_le, slice_get, slice_set, refl, sym, ◌∙◌, ap, arith, length-append, take-append-drop, if◌then◌else◌, list_any, list_all, nat_tests, is_arrival, is_rising, has_arrived, has_ended, can_send, is_sound_after, is_sound, is_plain, LinkState, new_link, is_ready, is_finish, comes, finishes, sent, sent_by, finish_by, passes_by, arrives_by, arrivals, event_of, MemNetState, link_at, LinkFollows, AllTold, FollowsSchedule, IsOfShut, IsSending, IsFinishing, Does, Act, NetEvent, Finish, slice_get_within, slice_get_read, or_true}
 use Rattle.link_trait.specs.declared.act.Act.TheVariants as act
-use Rattle.link_trait.specs.declared.net.NetEvent.{NetEvent}
 use Rattle.link_trait.specs.declared.net.NetEvent.TheVariants as event
-use Rattle.mem_net.specs.declared.mem_link.Finish.{Finish}
 use Rattle.mem_net.proofs.Schedules.{sound_at, sound_rises, arrived}
 use Rattle.mem_net.proofs.Places.{link_there, link_nowhere}
-use Rattle.std.proofs.lemmas.Option.{slice_get_within, slice_get_read}
 use Rattle.mem_net.proofs.Fitting.{IsApart, fits_arrive, fits_come, fits_finish}
 use Rattle.mem_net.proofs.Moving.{Moves, IsNext, drop_next, fits_all, fits_unmoved, next_rest, answers_quiet}
 use Rattle.mem_net.proofs.Telling.{Alike, Quiet, accepts, skips, readies, ticks, turns, told_moved, told_unmoved, followed, passing_passed}
-
-or_true : (b d : Bool) → d ≡ true → (b || d) ≡ true
-or_true true d h = refl
-or_true false d h = h
 
 or_mono : (b x y : Bool) → (x ≡ true → y ≡ true) → (b || x) ≡ true → (b || y) ≡ true
 or_mono true x y f h = refl
@@ -55,9 +40,6 @@ new_number (act.Turn ∷ acts) c h = new_number acts c h
 abbrev pub state : List Act → ℕ → List LinkState → ℕ → Bool → Bool → ℕ → Option ℕ → MemNetState
 state acts done links answers rested whole faults port =
     record { acts = acts; done = done; links = links; answers = answers; rested = rested; whole = whole; faults = faults; port = port }
-
-pub same_number : (c : ℕ) → nat_eq c c ≡ true
-same_number c = grind (arith, nat_tests)
 
 pub read_at : (acts xs : List Act) (i : ℕ) (one told : Act) → xs ≡ acts → i < length acts → one ≡ get_or xs i one → one ≡ told → slice_get acts i ≡ Some told
 read_at acts xs i one told e h r t =
@@ -168,6 +150,7 @@ arrive_leaves conn i old new link n m e links told answers faults port rest =
       does = record {
         event = accepts conn i old new link n m e quiet answers faults port rest;
         goes_on = refl;
+        tells = (one, n.at, refl);
         acts = n.acts;
         one_more = n.one_more;
         whole = n.whole;
@@ -183,7 +166,7 @@ tick_leaves old new n l told answers faults port rest =
     record {
       follows = followed act.Tick old new n (ap length l) (fits_unmoved act.Tick old new n l (λ d. record { sent = refl; finish = refl; arrival = refl })) passed.0 told_new;
       told = told_new;
-      does = record { event = ticks old new n l answers faults port rest; goes_on = refl; acts = n.acts; one_more = n.one_more; whole = n.whole; told = told_new };
+      does = record { event = ticks old new n l answers faults port rest; goes_on = refl; tells = (act.Tick, n.at, refl); acts = n.acts; one_more = n.one_more; whole = n.whole; told = told_new };
     }
 
 pub turn_leaves : (old new : MemNetState) → IsNext act.Turn old new → new.links ≡ old.links → AllTold old → new.answers ≡ min (old.answers + 1) (2 ^ 64 - 1) → new.faults ≡ old.faults → new.port ≡ old.port → new.rested ≡ true
@@ -194,7 +177,7 @@ turn_leaves old new n l told answers faults port rest =
     record {
       follows = followed act.Turn old new n (ap length l) (fits_unmoved act.Turn old new n l (λ d. record { sent = refl; finish = refl; arrival = refl })) passed.0 told_new;
       told = told_new;
-      does = record { event = turns old new n l answers faults port rest; goes_on = refl; acts = n.acts; one_more = n.one_more; whole = n.whole; told = told_new };
+      does = record { event = turns old new n l answers faults port rest; goes_on = refl; tells = (act.Turn, n.at, refl); acts = n.acts; one_more = n.one_more; whole = n.whole; told = told_new };
     }
 
 due_of : (due live now : Bool) → now ≡ (due || live) → live ≡ true → now ≡ true
@@ -205,20 +188,27 @@ due_same : (due live now : Bool) → now ≡ (due || live) → live ≡ false �
 due_same true live now e h = e
 due_same false live now e h = e ∙ h
 
-comes_does : (one : Act) (conn i : ℕ) (old new : MemNetState) (link : LinkState) → IsNext one old new → Moves conn i old new link → passes_by one ≡ [] → arrives_by one ≡ [] → Alike (link_at old conn) link → link.live ≡ (link_at old conn).live
+-- an act on the octets of conn
+record IsOn (conn : ℕ) (net : MemNetState) (one : Act) : Type 0 where
+  pub event : event_of one ≡ Some (event.Readable (record { 0 = conn }))
+  pub shut : (link_at net conn).live ≡ false → IsOfShut net one
+
+comes_does : (one : Act) (conn i : ℕ) (old new : MemNetState) (link : LinkState) → IsOn conn old one → IsNext one old new → Moves conn i old new link → passes_by one ≡ [] → arrives_by one ≡ [] → Alike (link_at old conn) link → link.live ≡ (link_at old conn).live
     → link.due ≡ ((link_at old conn).due || (link_at old conn).live) → AllTold new → Quiet old new → new.rested ≡ false → (tells : Bool) → tells ≡ (link_at old conn).live
     → Does (if tells then Some (event.Readable (record { 0 = conn })) else None) old new
-comes_does one conn i old new link n m p r alike live due told quiet rest true t = record {
+comes_does one conn i old new link on n m p r alike live due told quiet rest true t = record {
   event = readies one conn i old new link n m alike quiet p r live (sym t) (due_of (link_at old conn).due (link_at old conn).live link.due due (sym t)) rest;
   goes_on = refl;
+  tells = (one, n.at, on.event);
   acts = n.acts;
   one_more = n.one_more;
   whole = n.whole;
   told = told;
 }
-comes_does one conn i old new link n m p r alike live due told quiet rest false t = record {
+comes_does one conn i old new link on n m p r alike live due told quiet rest false t = record {
   event = skips one conn i old new link n m alike quiet p r live (due_same (link_at old conn).due (link_at old conn).live link.due due (sym t));
   goes_on = tt;
+  tells = (one, n.at, on.shut (sym t));
   acts = n.acts;
   one_more = n.one_more;
   whole = n.whole;
@@ -226,16 +216,16 @@ comes_does one conn i old new link n m p r alike live due told quiet rest false 
 }
 
 -- a link to which something comes: it is told of where it is live
-comes_leaves : (one : Act) (conn i : ℕ) (old new : MemNetState) (link : LinkState) → IsNext one old new → Moves conn i old new link → ((d : ℕ) → d ≢ conn → IsApart d one) → passes_by one ≡ [] → arrives_by one ≡ []
+comes_leaves : (one : Act) (conn i : ℕ) (old new : MemNetState) (link : LinkState) → IsOn conn old one → IsNext one old new → Moves conn i old new link → ((d : ℕ) → d ≢ conn → IsApart d one) → passes_by one ≡ [] → arrives_by one ≡ []
     → (has_arrived old.acts conn ≡ true → LinkFollows conn (take old.done old.acts ++ one ∷ []) (drop new.done new.acts) old.whole link) → Alike (link_at old conn) link → link.live ≡ (link_at old conn).live → link.due ≡ ((link_at old conn).due || (link_at old conn).live)
     → length new.links ≡ length old.links → AllTold old → Quiet old new → new.rested ≡ false → (tells : Bool) → tells ≡ (link_at old conn).live → Leaves (if tells then Some (event.Readable (record { 0 = conn })) else None) old new
-comes_leaves one conn i old new link n m apart p r fit alike live due links told quiet rest tells t =
+comes_leaves one conn i old new link on n m apart p r fit alike live due links told quiet rest tells t =
     let told_new : AllTold new = told_moved conn i old new link m told (λ l ready. due_of (link_at old conn).due (link_at old conn).live link.due due (sym live ∙ l)) in
     let answers = answers_quiet one old new n p quiet.answers in
     record {
       follows = followed one old new n links (fits_all one conn i old new link n m apart fit) answers told_new;
       told = told_new;
-      does = comes_does one conn i old new link n m p r alike live due told_new quiet rest tells t;
+      does = comes_does one conn i old new link on n m p r alike live due told_new quiet rest tells t;
     }
 
 send_apart : (conn other d : ℕ) (octets : List ℕ) → other ≡ conn → d ≢ conn → IsApart d (act.Octets (record { 0 = other }) octets)
@@ -285,7 +275,7 @@ come_leaves count (act.Octets other octets) conn i old new link s n m e links to
     let here : has_arrived old.acts conn ≡ true → LinkFollows conn (before ++ one ∷ []) (drop new.done new.acts) old.whole link = λ a.
     rw (e, ← s.1) (fits_come conn before (drop new.done new.acts) one octets ((link_at old conn).due || (link_at old conn).live) old.whole (link_at old conn) came open_yet sent refl some
     (rw (← (next_rest one old new n)) (n.follows.fits conn a))) in
-    comes_leaves one conn i old new link n m (λ d apart. send_apart conn other.0 d octets s.0 apart) refl refl here (rw e (comes_alike count (link_at old conn)))
+    comes_leaves one conn i old new link (record { event = rw s.0 refl; shut = λ h. rw s.0 h }) n m (λ d apart. send_apart conn other.0 d octets s.0 apart) refl refl here (rw e (comes_alike count (link_at old conn)))
     (ap (λ l. l.live) e) (ap (λ l. l.due) e) links told quiet rest tells t
 come_leaves count (act.Arrive other credit) conn i old new link s n m e links told quiet rest tells t = absurd s
 come_leaves count (act.End other) conn i old new link s n m e links told quiet rest tells t = absurd s
@@ -323,9 +313,9 @@ fail_apart conn other d e n = let apart : nat_eq other d ≡ false = grind (arit
 -- an act that ends the octets of a connection
 finished : (one : Act) (other : ℕ) (end : Finish) (conn i : ℕ) (old new : MemNetState) (link : LinkState) → other ≡ conn → can_send (take old.done old.acts) other ≡ true → ((d : ℕ) → d ≢ conn → IsApart d one)
     → passes_by one ≡ [] → arrives_by one ≡ [] → sent_by conn one ≡ [] → finish_by conn one ≡ end → is_finish end ≡ true
-    → IsNext one old new → Moves conn i old new link → link ≡ finishes end (link_at old conn)
+    → IsOn conn old one → IsNext one old new → Moves conn i old new link → link ≡ finishes end (link_at old conn)
     → length new.links ≡ length old.links → AllTold old → Quiet old new → new.rested ≡ false → (tells : Bool) → tells ≡ (link_at old conn).live → Leaves (if tells then Some (event.Readable (record { 0 = conn })) else None) old new
-finished one other end conn i old new link s can apart p r sent ends is n m e links told quiet rest tells t =
+finished one other end conn i old new link s can apart p r sent ends is on n m e links told quiet rest tells t =
     let before = take old.done old.acts in
     let came_there : has_arrived before other ≡ true = grind arith in
     let came : has_arrived before conn ≡ true = rw (← s) came_there in
@@ -334,7 +324,7 @@ finished one other end conn i old new link s can apart p r sent ends is n m e li
     let here : has_arrived old.acts conn ≡ true → LinkFollows conn (before ++ one ∷ []) (drop new.done new.acts) old.whole link = λ a.
     rw e (fits_finish conn before (drop new.done new.acts) one end ((link_at old conn).due || (link_at old conn).live) old.whole (link_at old conn) came open_yet sent ends is
     (rw (← (next_rest one old new n)) (n.follows.fits conn a))) in
-    comes_leaves one conn i old new link n m apart p r here (rw e (finishes_alike end (link_at old conn))) (ap (λ l. l.live) e) (ap (λ l. l.due) e) links told quiet rest tells t
+    comes_leaves one conn i old new link on n m apart p r here (rw e (finishes_alike end (link_at old conn))) (ap (λ l. l.live) e) (ap (λ l. l.due) e) links told quiet rest tells t
 
 pub finish_leaves : (end : Finish) (one : Act) (conn i : ℕ) (old new : MemNetState) (link : LinkState) → IsFinishing conn end one → IsNext one old new → Moves conn i old new link → link ≡ finishes end (link_at old conn)
     → length new.links ≡ length old.links → AllTold old → Quiet old new → new.rested ≡ false → (tells : Bool) → tells ≡ (link_at old conn).live → Leaves (if tells then Some (event.Readable (record { 0 = conn })) else None) old new
@@ -345,7 +335,7 @@ finish_leaves end (act.End other) conn i old new link s n m e links told quiet r
     let can : can_send before other.0 ≡ true = grind arith in
     let same : nat_eq other.0 conn ≡ true = grind (arith, nat_tests) in
     let end_is : finish_by conn one ≡ end = rw same (sym s.1) in
-    finished one other.0 end conn i old new link s.0 can (λ d apart. end_apart conn other.0 d s.0 apart) refl refl refl end_is (rw s.1 refl) n m e links told quiet rest tells t
+    finished one other.0 end conn i old new link s.0 can (λ d apart. end_apart conn other.0 d s.0 apart) refl refl refl end_is (rw s.1 refl) (record { event = rw s.0 refl; shut = λ h. rw s.0 h }) n m e links told quiet rest tells t
 finish_leaves end (act.ReadFails other) conn i old new link s n m e links told quiet rest tells t =
     let one = act.ReadFails other in
     let before = take old.done old.acts in
@@ -353,7 +343,7 @@ finish_leaves end (act.ReadFails other) conn i old new link s n m e links told q
     let can : can_send before other.0 ≡ true = grind arith in
     let same : nat_eq other.0 conn ≡ true = grind (arith, nat_tests) in
     let end_is : finish_by conn one ≡ end = rw same (sym s.1) in
-    finished one other.0 end conn i old new link s.0 can (λ d apart. fail_apart conn other.0 d s.0 apart) refl refl refl end_is (rw s.1 refl) n m e links told quiet rest tells t
+    finished one other.0 end conn i old new link s.0 can (λ d apart. fail_apart conn other.0 d s.0 apart) refl refl refl end_is (rw s.1 refl) (record { event = rw s.0 refl; shut = λ h. rw s.0 h }) n m e links told quiet rest tells t
 finish_leaves end (act.Arrive other credit) conn i old new link s n m e links told quiet rest tells t = absurd s
 finish_leaves end (act.Octets other octets) conn i old new link s n m e links told quiet rest tells t = absurd s
 finish_leaves end (act.Room other more) conn i old new link s n m e links told quiet rest tells t = absurd s

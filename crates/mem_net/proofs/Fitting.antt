@@ -1,22 +1,7 @@
 -- Lemmas on links that follow the acts of a schedule.
-use Rattle.std.proofs.Common.{◌≡◌, ℕ, ◌<◌, List, [], ◌∷◌, ◌++◌, ◌&&◌, ◌||◌, not, length, take, drop, Bool, true, false, nat_eq, nat_lt, refl, sym, ◌∙◌, ap, arith, append_assoc, length-append}
-use Rattle.std.proofs.lemmas.Bool.Decides.{nat_tests}
-use Rattle.std.proofs.lemmas.List.{append-nil}
-use Rattle.std.proofs.lemmas.List.Folds.{list_any-append}
-use Rattle.std.proofs.lemmas.Grind.{flat_map-append}
-use Rattle.std.proofs.Math.Seq.{take-append_seam, drop-append_seam}
-use Rattle.mem_net.specs.Schedule.{is_arrival, has_arrived, has_ended}
-use Rattle.mem_net.specs.LinkState.{LinkState, is_finish}
-use Rattle.mem_net.specs.Acts.{sent, sent_by, finish_by, finish_of, or_then, is_fault}
-use Rattle.mem_net.specs.MemNet.{LinkFollows}
-use Rattle.link_trait.specs.declared.act.Act.{Act}
+use Rattle.mem_net.proofs.Below.{◌≡◌, ℕ, ◌<◌, List, [], ◌∷◌, ◌++◌, ◌&&◌, ◌||◌, not, length, take, drop, Bool, true, false, nat_eq, nat_lt, refl, sym, ◌∙◌, ap, arith, append_assoc, length-append, nat_tests, append-nil, list_any-append, flat_map-append, take-append_seam, drop-append_seam, is_arrival, has_arrived, has_ended, LinkState, is_finish, sent, sent_by, finish_by, finish_of, or_then, is_fault, LinkFollows, Act, Finish, or_false}
 use Rattle.link_trait.specs.declared.act.Act.TheVariants as act
-use Rattle.mem_net.specs.declared.mem_link.Finish.{Finish}
 use Rattle.mem_net.specs.declared.mem_link.Finish.TheVariants as finish
-
-or_false : (b : Bool) → (b || false) ≡ b
-or_false true = refl
-or_false false = refl
 
 pub or_then_later : (f : Finish) → or_then f finish.Later ≡ f
 or_then_later finish.Later = refl

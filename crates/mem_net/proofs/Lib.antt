@@ -8,3 +8,5 @@ pub mod Acting
 pub mod Resting
 pub mod Using
 pub mod Preparing
+pub mod Below
+pub mod All

@@ -1,17 +1,5 @@
 -- Lemmas on a net in memory of which one link changes.
-use Rattle.std.proofs.Common.{◌≡◌, ◌≢◌, ℕ, zero, suc, ◌+◌, ◌-◌, ◌^◌, ◌<◌, ◌≤◌, ◌⊎◌, inl, inr, List, [], ◌∷◌, ◌++◌, length, take, drop, get_or, Bool, true, Some, slice_get, slice_set, refl, sym, ◌∙◌, ap, arith, length-append}
-use Rattle.std.specs.List.{sum_by}
-use Rattle.std.proofs.lemmas.Bool.{cases_eq}
-use Rattle.std.proofs.lemmas.List.{append-nil, take_more, drop_more}
-use Rattle.std.proofs.lemmas.List.Sums.{sum_by-set}
-use Rattle.std.proofs.lemmas.Option.{slice_get_within, get_or_from_slice_get, slice_get-get_or}
-use Rattle.std.proofs.lemmas.Grind.{flat_map-append}
-use Rattle.mem_net.specs.Schedule.{has_arrived, is_sound}
-use Rattle.mem_net.specs.LinkState.{LinkState}
-use Rattle.link_trait.specs.Net.{Same, SameBut}
-use Rattle.mem_net.specs.Acts.{arrivals, passes_by, passes}
-use Rattle.mem_net.specs.MemNet.{MemNetState, passed_by, link_at, readies_left, LinkFollows, FollowsSchedule}
-use Rattle.link_trait.specs.declared.act.Act.{Act}
+use Rattle.mem_net.proofs.Below.{◌≡◌, ◌≢◌, ℕ, zero, suc, ◌+◌, ◌-◌, ◌^◌, ◌<◌, ◌≤◌, ◌⊎◌, inl, inr, List, [], ◌∷◌, ◌++◌, length, take, drop, get_or, Bool, true, Some, slice_get, slice_set, refl, sym, ◌∙◌, ap, arith, length-append, sum_by, cases_eq, append-nil, take_more, drop_more, sum_by-set, slice_get_within, get_or_from_slice_get, slice_get-get_or, flat_map-append, has_arrived, is_sound, LinkState, Same, SameBut, arrivals, passes_by, passes, MemNetState, passed_by, link_at, readies_left, LinkFollows, FollowsSchedule, Act}
 use Rattle.link_trait.specs.declared.act.Act.TheVariants as act
 use Rattle.mem_net.proofs.Places.{link_here, link_elsewhere, link_there}
 use Rattle.mem_net.proofs.Schedules.{sound_rises}
@@ -135,9 +123,6 @@ passed_before one old new n = no_stops (take old.done old.acts) old.answers (n.f
 pub record Passes (new : MemNetState) : Type 0 where
   pub passed : length (passes (take new.done new.acts)) ≤ new.answers
   pub stops : new.done < length new.acts → new.answers ≡ length (passes (take new.done new.acts))
-
-passes_equal : (new : MemNetState) → new.answers ≡ length (passes (take new.done new.acts)) → Passes new
-passes_equal new e = record { passed = omega arith; stops = λ h. e }
 
 pub answers_quiet : (one : Act) (old new : MemNetState) → IsNext one old new → passes_by one ≡ [] → new.answers ≡ old.answers → new.answers ≡ length (passes (take new.done new.acts))
 answers_quiet one old new n q a =

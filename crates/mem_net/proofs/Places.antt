@@ -1,20 +1,5 @@
 -- Lemmas on links that are found by the numbers of their connections.
-use Rattle.std.proofs.Common.{◌≡◌, ◌≢◌, ℕ, zero, suc, ◌<◌, ◌≤◌, List, [], ◌∷◌, ◌++◌, length, get_or, Some, slice_get, slice_set, true, false, nat_eq, nat_lt, refl, ◌∙◌, ap, arith, if◌then◌else◌}
-use Rattle.std.specs.List.{list_any, list_all}
-use Rattle.std.proofs.lemmas.Bool.Decides.{nat_tests}
-use Rattle.std.proofs.lemmas.List.Folds.{list_all-append}
-use Rattle.std.proofs.lemmas.Option.{slice_get-get_or}
-use Rattle.std.proofs.Common.{Result, Ok, Err, IfSome, IfNone, ◌⊎◌, inl, inr}
-use Rattle.std.proofs.lemmas.Bool.{cases_lt}
-use Rattle.std.specs.Result.{result_ok}
-use Rattle.std.specs.Ordering.{nat_cmp}
-use Rattle.std.specs.List.Sorted.{IsBinarySearchResult}
-use Rattle.std.proofs.lemmas.List.Sorted.{searched}
-use Rattle.std.proofs.lemmas.List.Folds.{list_any_none}
-use Rattle.std.proofs.lemmas.List.Elements.{All-from_get_or}
-use Rattle.mem_net.specs.LinkState.{LinkState, new_link}
-use Rattle.mem_net.specs.MemNet.{link_of}
-use Rattle.mem_net.specs.MemSteps.{Rises}
+use Rattle.mem_net.proofs.Below.{◌≡◌, ◌≢◌, ℕ, zero, suc, ◌<◌, ◌≤◌, List, [], ◌∷◌, ◌++◌, length, get_or, Some, slice_get, slice_set, true, false, nat_eq, nat_lt, refl, ◌∙◌, ap, arith, if◌then◌else◌, Result, Ok, Err, IfSome, IfNone, ◌⊎◌, inl, inr, list_any, list_all, nat_tests, list_all-append, list_any_none, slice_get-get_or, cases_lt, result_ok, nat_cmp, IsBinarySearchResult, searched, All-from_get_or, LinkState, new_link, link_of, Rises}
 
 pub above : (number : ℕ) (numbers : List ℕ) (i c : ℕ) → list_all (nat_lt number) numbers ≡ true → slice_get numbers i ≡ Some c → number < c
 above number [] i c h e = cc
@@ -89,13 +74,6 @@ below_or_above k i low high = cases_of (cases_lt k i) low high
 not_among : (numbers : List ℕ) (c i : ℕ) → ((k : ℕ) → k < i → get_or numbers k 0 < c) → ((k : ℕ) → i ≤ k → k < length numbers → c < get_or numbers k 0)
     → list_any (λ number. nat_eq number c) numbers ≡ false
 not_among numbers c i low high = list_any_none (λ number. nat_eq number c) numbers (All-from_get_or (λ number. nat_eq number c ≡ false) numbers 0 (λ k h. apart_cases (get_or numbers k 0) c (below_or_above k i (low k) (λ g. high k g h))))
-
--- what a binary search finds
-pub found_some : (numbers : List ℕ) (c : ℕ) (r : Result ℕ ℕ) → Rises numbers → IsBinarySearchResult (λ y. nat_cmp y c) numbers r → IfSome (result_ok r) (λ place. slice_get numbers place ≡ Some c)
-found_some numbers c (Ok i) r h =
-    let there = searched numbers c (Ok i) h (rises_at numbers r) in
-    slice_get-get_or numbers i 0 there.0 ∙ ap Some there.1
-found_some numbers c (Err i) r h = tt
 
 pub found_none : (numbers : List ℕ) (c : ℕ) (r : Result ℕ ℕ) → Rises numbers → IsBinarySearchResult (λ y. nat_cmp y c) numbers r → IfNone (result_ok r) (list_any (λ number. nat_eq number c) numbers ≡ false)
 found_none numbers c (Ok i) r h = tt

@@ -1,17 +1,5 @@
 -- Lemmas on the links of a net in memory before the first act.
-use Rattle.std.proofs.Common.{◌≡◌, ◌≢◌, ℕ, zero, suc, ◌+◌, ◌^◌, ◌<◌, List, [], ◌∷◌, ◌++◌, ◌||◌, length, take, get_or, map, Bool, true, false, Option, Some, nat_eq, nat_lt, slice_get, slice_set, refl, sym, ◌∙◌, ap, arith, append_assoc, option_map, if◌then◌else◌}
-use Rattle.std.specs.List.{list_any, list_all}
-use Rattle.std.proofs.lemmas.Bool.Decides.{nat_tests}
-use Rattle.std.proofs.lemmas.List.{append-nil, map-append}
-use Rattle.std.proofs.lemmas.List.Folds.{list_any-append}
-use Rattle.std.proofs.lemmas.Option.{slice_get-map, slice_get_within, get_or_from_slice_get}
-use Rattle.std.proofs.lemmas.Grind.{flat_map-append}
-use Rattle.mem_net.specs.Schedule.{is_arrival, is_rising, has_arrived, is_sound_after, are_sound_after, is_sound, is_plain}
-use Rattle.mem_net.specs.LinkState.{LinkState, new_link, is_untold}
-use Rattle.mem_net.specs.Acts.{arrives_by, arrivals, sent, sent_by}
-use Rattle.mem_net.specs.MemNet.{link_of, new_links, start_net}
-use Rattle.mem_net.specs.MemSteps.{Rises, Keeps}
-use Rattle.link_trait.specs.declared.act.Act.{Act}
+use Rattle.mem_net.proofs.Below.{◌≡◌, ◌≢◌, ℕ, zero, suc, ◌+◌, ◌^◌, ◌<◌, List, [], ◌∷◌, ◌++◌, ◌||◌, length, take, get_or, map, Bool, true, false, Option, Some, nat_eq, nat_lt, slice_get, slice_set, refl, sym, ◌∙◌, ap, arith, append_assoc, option_map, if◌then◌else◌, list_any, list_all, nat_tests, append-nil, map-append, list_any-append, slice_get-map, slice_get_within, get_or_from_slice_get, flat_map-append, is_arrival, is_rising, has_arrived, is_sound_after, are_sound_after, is_sound, is_plain, LinkState, new_link, is_untold, arrives_by, arrivals, sent, sent_by, link_of, new_links, start_net, Rises, Keeps, Act}
 use Rattle.link_trait.specs.declared.act.Act.TheVariants as act
 use Rattle.mem_net.proofs.Places.{above}
 use Rattle.mem_net.proofs.Schedules.{sound_at, sound_rises, arrived}

@@ -1,20 +1,8 @@
 -- What a net in memory does beside the acts of its schedule.
-use Rattle.std.proofs.Common.{◌≡◌, ℕ, ◌+◌, ◌-◌, ◌^◌, ◌<◌, ◌≤◌, List, [], ◌∷◌, ◌++◌, ◌&&◌, ◌||◌, not, length, take, drop, min, max, replicate, Bool, true, false, nat_eq, nat_lt, refl, sym, ◌∙◌, ap, arith, length-append, append_assoc, if◌then◌else◌}
-use Rattle.std.specs.List.{list_any, fold}
-use Rattle.std.proofs.lemmas.Bool.{cases_eq}
-use Rattle.std.proofs.lemmas.Bool.Decides.{nat_tests}
-use Rattle.std.proofs.lemmas.List.{replicate-append-replicate, length-replicate}
-use Rattle.mem_net.specs.Schedule.{has_arrived}
-use Rattle.mem_net.specs.LinkState.{LinkState, new_link, is_ready, is_untold, tells}
-use Rattle.link_trait.specs.Net.{Nexts, passed_after}
-use Rattle.mem_net.specs.Acts.{arrivals, passes}
-use Rattle.mem_net.specs.MemNet.{MemNetState, passed_by, link_of, link_at, readies_left, net_state, LinkFollows, AllTold, FollowsSchedule}
-use Rattle.mem_net.specs.MemSteps.{Repeats}
-use Rattle.link_trait.specs.declared.act.Act.{Act}
-use Rattle.link_trait.specs.declared.net.NetEvent.{NetEvent}
+use Rattle.mem_net.proofs.Below.{◌≡◌, ℕ, ◌+◌, ◌-◌, ◌^◌, ◌<◌, ◌≤◌, List, [], ◌∷◌, ◌++◌, ◌&&◌, ◌||◌, not, length, take, drop, min, max, replicate, Bool, true, false, nat_eq, nat_lt, refl, sym, ◌∙◌, ap, arith, length-append, append_assoc, if◌then◌else◌, list_any, fold, cases_eq, nat_tests, replicate-append-replicate, length-replicate, has_arrived, LinkState, new_link, is_ready, is_untold, tells, Nexts, passed_after, arrivals, passes, MemNetState, passed_by, link_of, link_at, readies_left, net_state, LinkFollows, AllTold, FollowsSchedule, Repeats, Act, NetEvent, or_left, or_right}
 use Rattle.link_trait.specs.declared.net.NetEvent.TheVariants as event
 use Rattle.mem_net.proofs.Moving.{Moves, moved_here, moved_elsewhere, moved_same, moved_but, moved_sum, either}
-use Rattle.mem_net.proofs.Telling.{same_net, unmoved_traffic, unmoved_links, nothing_passes}
+use Rattle.mem_net.proofs.Telling.{same_least, same_net, unmoved_traffic, unmoved_links, nothing_passes}
 
 -- one item more at the end, while the list has fewer than most
 one_more : (acts : List NetEvent) (one : NetEvent) (answers more most : ℕ) → length acts ≤ answers → answers ≤ most → more ≡ min (answers + 1) most → (below : Bool) → below ≡ nat_lt answers most
@@ -53,16 +41,8 @@ stops old new f small acts done links answers faults port rest =
       };
       event = unmoved_links old new acts links (ap (λ l. fold max 0 (arrivals l)) same);
       port = port;
-      faults = faults;
+      faults = same_least old.faults new.faults faults;
     }
-
-or_left : (b d : Bool) → (b || d) ≡ false → b ≡ false
-or_left true d h = h
-or_left false d h = refl
-
-or_right : (b d : Bool) → (b || d) ≡ false → d ≡ false
-or_right true d h = cc
-or_right false d h = h
 
 chosen : (b : Bool) (p : LinkState → Bool) (x y : LinkState) → p x ≡ false → p y ≡ false → p (if b then x else y) ≡ false
 chosen true p x y h g = h
@@ -198,7 +178,7 @@ again conn i old new link t e untold faults port whole rest =
           room = omega arith;
         };
         port = port;
-        faults = faults;
+        faults = same_least old.faults new.faults faults;
       };
       goes_on = refl;
       acts = m.acts;

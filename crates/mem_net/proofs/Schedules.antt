@@ -1,13 +1,6 @@
 -- Lemmas on sound schedules.
-use Rattle.std.proofs.Common.{◌≡◌, ℕ, zero, suc, List, [], ◌∷◌, ◌++◌, ◌&&◌, ◌||◌, take, true, Some, nat_eq, nat_lt, slice_get, refl, sym, ◌∙◌, ap, arith, append_assoc}
-use Rattle.std.specs.List.{list_any, list_all}
-use Rattle.std.proofs.lemmas.List.{append-nil}
-use Rattle.std.proofs.lemmas.Grind.{flat_map-append}
-use Rattle.mem_net.specs.Schedule.{is_rising, has_arrived, is_sound_after, are_sound_after, is_sound}
-use Rattle.mem_net.specs.Acts.{arrives_by, arrivals}
-use Rattle.link_trait.specs.declared.act.Act.{Act}
+use Rattle.mem_net.proofs.Below.{◌≡◌, ℕ, zero, suc, List, [], ◌∷◌, ◌++◌, ◌&&◌, ◌||◌, take, true, Some, nat_eq, nat_lt, slice_get, refl, sym, ◌∙◌, ap, arith, append_assoc, list_any, list_all, append-nil, flat_map-append, is_rising, has_arrived, is_sound_after, are_sound_after, is_sound, arrives_by, arrivals, Act, Rises}
 use Rattle.link_trait.specs.declared.act.Act.TheVariants as act
-use Rattle.mem_net.specs.MemSteps.{Rises}
 use Rattle.mem_net.proofs.Places.{Rises-push}
 
 -- the act at a place is sound after those before it

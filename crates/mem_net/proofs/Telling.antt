@@ -1,20 +1,6 @@
 -- Lemmas on what the acts of a net in memory tell.
-use Rattle.std.proofs.Common.{◌≡◌, ℕ, ◌+◌, ◌-◌, ◌^◌, ◌<◌, ◌≤◌, List, [], ◌∷◌, ◌++◌, length, take, drop, min, max, Bool, true, false, Some, None, nat_lt, refl, sym, ◌∙◌, ap, arith, length-append, if◌then◌else◌}
-use Rattle.std.specs.List.{list_all, sum_by, fold}
-use Rattle.std.proofs.lemmas.Bool.{cases_eq}
-use Rattle.std.proofs.lemmas.Bool.Decides.{nat_tests}
-use Rattle.std.proofs.lemmas.List.{append-nil}
-use Rattle.std.proofs.lemmas.List.Sums.{fold_push}
-use Rattle.std.proofs.lemmas.Grind.{flat_map-append}
-use Rattle.mem_net.specs.Schedule.{is_rising, has_arrived, is_sound_after, is_number}
-use Rattle.mem_net.specs.LinkState.{LinkState, new_link, is_ready}
-use Rattle.link_trait.specs.Net.{SameTraffic, SameLinks, SameNet, Nexts}
-use Rattle.mem_net.specs.Acts.{arrives_by, arrivals, passes_by, passes}
-use Rattle.mem_net.specs.MemNet.{MemNetState, passed_by, link_at, readies_left, net_state, LinkFollows, AllTold, FollowsSchedule}
-use Rattle.mem_net.specs.MemSteps.{Skips}
-use Rattle.link_trait.specs.declared.act.Act.{Act}
+use Rattle.mem_net.proofs.Below.{◌≡◌, ℕ, ◌+◌, ◌-◌, ◌^◌, ◌<◌, ◌≤◌, List, [], ◌∷◌, ◌++◌, length, take, drop, min, max, Bool, true, false, Some, None, nat_lt, refl, sym, ◌∙◌, ap, arith, length-append, if◌then◌else◌, list_all, sum_by, fold, cases_eq, nat_tests, append-nil, fold_push, flat_map-append, is_rising, has_arrived, is_sound_after, is_number, LinkState, new_link, is_ready, SameTraffic, SameLinks, SameNet, Nexts, arrives_by, arrivals, passes_by, passes, MemNetState, passed_by, link_at, readies_left, net_state, LinkFollows, AllTold, FollowsSchedule, Skips, Act, NetEvent}
 use Rattle.link_trait.specs.declared.act.Act.TheVariants as act
-use Rattle.link_trait.specs.declared.net.NetEvent.{NetEvent}
 use Rattle.link_trait.specs.declared.net.NetEvent.TheVariants as event
 use Rattle.mem_net.proofs.Schedules.{sound_at, below}
 use Rattle.mem_net.proofs.Moving.{Moves, no_stops, either, moved_elsewhere, moved_here, moved_same, moved_but, moved_sum, IsNext, next_within, next_done, passes_few, passes_push, passed_before, quiet_passed}
@@ -81,6 +67,9 @@ same_named one old new n a =
     ap arrivals (next_done one old new n) ∙ flat_map-append arrives_by (take old.done old.acts) (one ∷ []) ∙ ap (λ l. arrivals (take old.done old.acts) ++ l) (append-nil (arrives_by one)) ∙ rw a (append-nil (arrivals (take old.done old.acts))) in
     ap (fold max 0) same
 
+pub same_least : (old new : ℕ) → new ≡ old → old ≤ new
+same_least old new e = omega arith
+
 -- what stays beside the links
 pub record Quiet (old new : MemNetState) : Type 0 where
   pub answers : new.answers ≡ old.answers
@@ -131,7 +120,7 @@ readies one conn i old new link n m a q p r same live due rest =
         room = less_room one old new n (omega arith);
       };
       port = q.port;
-      faults = q.faults;
+      faults = same_least old.faults new.faults q.faults;
     }
 
 -- no link moved
@@ -219,7 +208,7 @@ accepts conn i old new link n m e quiet answers faults port rest =
         room = less_room one old new n (omega arith);
       };
       port = port;
-      faults = faults;
+      faults = same_least old.faults new.faults faults;
     }
 
 -- Tick and Turn
@@ -238,7 +227,7 @@ ticks old new n l answers faults port rest =
       };
       event = record { links = unmoved_links old new n.acts l (same_named act.Tick old new n refl); room = less_room act.Tick old new n (omega arith) };
       port = port;
-      faults = faults;
+      faults = same_least old.faults new.faults faults;
     }
 
 pub turns : (old new : MemNetState) → IsNext act.Turn old new → new.links ≡ old.links → new.answers ≡ min (old.answers + 1) (2 ^ 64 - 1) → new.faults ≡ old.faults → new.port ≡ old.port → new.rested ≡ true
@@ -255,7 +244,7 @@ turns old new n l answers faults port rest =
       };
       event = unmoved_links old new n.acts l (same_named act.Turn old new n refl);
       port = port;
-      faults = faults;
+      faults = same_least old.faults new.faults faults;
     }
 
 -- what waits was told, once the link that changes is due where it has to be

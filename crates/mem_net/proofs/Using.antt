@@ -1,39 +1,23 @@
 -- What a read, a write and a shut do to a net in memory.
-use Rattle.std.proofs.Common.{◌≡◌, ℕ, ◌+◌, ◌-◌, ◌^◌, ◌<◌, ◌≤◌, List, [], ◌∷◌, ◌++◌, ◌⊎◌, ◌&&◌, ◌||◌, not, length, take, drop, min, Bool, true, false, nat_lt, refl, sym, ◌∙◌, ap, arith, append_assoc, take-append-drop, length-drop, if◌then◌else◌, inl, inr}
-use Rattle.std.proofs.lemmas.Bool.{cases_lt}
-use Rattle.std.proofs.Math.Seq.{take-length}
-use Rattle.std.proofs.lemmas.Bool.Decides.{nat_tests}
-use Rattle.link_trait.specs.Link.{Rose}
-use Rattle.mem_net.specs.Schedule.{has_arrived}
-use Rattle.mem_net.specs.LinkState.{LinkState, is_ready, is_finish, LinkReads, faults_in_answer}
-use Rattle.link_trait.specs.Net.{Reads, Writes, Shuts, NetGivesWithin, NetGives, Ends, BreaksRead, CountsNetReadFaults}
-use Rattle.mem_net.specs.Acts.{is_end, is_fault}
-use Rattle.mem_net.specs.MemNet.{MemNetState, link_at, readies_left, net_state, LinkFollows, AllTold, FollowsSchedule}
-use Rattle.link_trait.specs.declared.act.Act.{Act}
-use Rattle.link_trait.specs.declared.net.NetRead.{NetRead}
+use Rattle.mem_net.proofs.Below.{◌≡◌, ℕ, ◌+◌, ◌-◌, ◌^◌, ◌<◌, ◌≤◌, List, [], ◌∷◌, ◌++◌, ◌⊎◌, ◌&&◌, ◌||◌, not, length, take, drop, min, Bool, true, false, nat_lt, refl, sym, ◌∙◌, ap, arith, append_assoc, take-append-drop, length-drop, if◌then◌else◌, inl, inr, cases_lt, take-length, nat_tests, has_arrived, LinkState, is_ready, is_finish, LinkReads, faults_in_answer, Reads, Writes, Shuts, NetGivesWithin, NetGives, Ends, BreaksRead, CountsFault, CountsNetReadFaults, is_end, is_fault, MemNetState, link_at, readies_left, net_state, LinkFollows, AllTold, FollowsSchedule, Act, NetRead, NetWrote, and_right}
 use Rattle.link_trait.specs.declared.net.NetRead.TheVariants as read
-use Rattle.link_trait.specs.declared.net.NetWrote.{NetWrote}
 use Rattle.link_trait.specs.declared.net.NetWrote.TheVariants as wrote
 use Rattle.mem_net.proofs.Moving.{moved_here, moved_same, moved_but, either}
-use Rattle.mem_net.proofs.Telling.{same_net, told_moved}
+use Rattle.mem_net.proofs.Telling.{same_least, same_net, told_moved}
 use Rattle.mem_net.proofs.Resting.{Touches, touched, touched_passed, touched_named, touched_room, live_arrived, fits_weaker}
 
 rises_below : (old new most : ℕ) → old ≤ most → new ≡ min (old + 1) most → (old < new) ⊎ (new ≡ most)
 rises_below old new most h e = either (cases_lt old most) (λ l. inl (omega arith)) (λ g. inr (omega arith))
-
-and_right : (b d : Bool) → (b && d) ≡ true → d ≡ true
-and_right true d h = h
-and_right false d h = cc
 
 and_false : (b d : Bool) → d ≡ false → (b && d) ≡ d
 and_false true d h = refl
 and_false false d h = sym h
 
 -- a fault more, while the count does not stand still
-rises : (old new : ℕ) → old < 2 ^ 64 → new ≡ min (old + 1) (2 ^ 64 - 1) → Rose old new
-rises old new f e = rises_below old new (2 ^ 64 - 1) (omega arith) e
+rises : (old new : ℕ) → old < 2 ^ 64 → new ≡ min (old + 1) (2 ^ 64 - 1) → CountsFault old new
+rises old new f e = (omega arith, rises_below old new (2 ^ 64 - 1) (omega arith) e)
 
-stays : (old new : ℕ) → old < 2 ^ 64 → new ≡ min (old + 0) (2 ^ 64 - 1) → new ≡ old
+stays : (old new : ℕ) → old < 2 ^ 64 → new ≡ min (old + 0) (2 ^ 64 - 1) → old ≤ new
 stays old new f e = omega arith
 
 read_faults : (answer : NetRead) (old new : ℕ) → old < 2 ^ 64 → new ≡ min (old + faults_in_answer answer) (2 ^ 64 - 1) → CountsNetReadFaults answer old new
@@ -277,7 +261,7 @@ took_leaves conn i octets old new link t e live faults port rest =
         writable_elsewhere = λ other apart. refl;
         room = omega arith;
         port = port;
-        faults = faults;
+        faults = same_least old.faults new.faults faults;
       };
       told = told;
     }
@@ -366,7 +350,7 @@ shut_leaves conn i old new link t e live faults port rest =
         writable_elsewhere = λ other apart. refl;
         room = omega arith;
         port = port;
-        faults = faults;
+        faults = same_least old.faults new.faults faults;
       };
       told = told;
     }

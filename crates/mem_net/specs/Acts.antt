@@ -1,5 +1,5 @@
 -- What the acts of a schedule send, end and pass.
-use Rattle.std.specs.Prelude.{ℕ, List, [], ◌∷◌, Bool, true, false, nat_eq, if◌then◌else◌}
+use Rattle.std.specs.Prelude.{ℕ, List, [], ◌∷◌, Option, Some, None, Bool, true, false, nat_eq, if◌then◌else◌}
 use Rattle.std.specs.List.{flat_map}
 use Rattle.link_trait.specs.declared.act.Act.{Act}
 use Rattle.link_trait.specs.declared.act.Act.TheVariants as act
@@ -48,6 +48,17 @@ passes_by _ = []
 
 abbrev pub passes : List Act → List NetEvent
 passes acts = flat_map passes_by acts
+
+-- the event by which an act is told
+abbrev pub event_of : Act → Option NetEvent
+event_of (act.Arrive conn credit) = Some (event.Accept conn)
+event_of (act.Octets conn octets) = Some (event.Readable conn)
+event_of (act.End conn) = Some (event.Readable conn)
+event_of (act.ReadFails conn) = Some (event.Readable conn)
+event_of (act.Room conn more) = Some (event.Writable conn)
+event_of (act.WriteFails conn) = None
+event_of act.Tick = Some event.Tick
+event_of act.Turn = Some event.Turn
 
 abbrev pub is_end : Finish → Bool
 is_end finish.Later = false

@@ -3,3 +3,4 @@ pub mod LinkState
 pub mod Acts
 pub mod MemNet
 pub mod MemSteps
+pub mod All

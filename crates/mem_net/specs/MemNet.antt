@@ -1,11 +1,12 @@
 -- A net in memory: what it holds, what it means, and how it follows its schedule.
-use Rattle.std.specs.Prelude.{◌≡◌, ◌<◌, ◌≤◌, ◌+◌, ◌-◌, ◌^◌, ◌++◌, ◌&&◌, ℕ, List, [], ◌∷◌, Option, Some, None, Bool, true, false, nat_eq, length, take, drop, max, map, replicate, if◌then◌else◌}
+use Rattle.std.specs.Prelude.{◌≡◌, ◌<◌, ◌≤◌, ◌+◌, ◌-◌, ◌^◌, ◌++◌, ◌&&◌, ◌⊎◌, ℕ, List, [], ◌∷◌, Option, Some, None, Bool, true, false, nat_eq, slice_get, length, take, drop, max, map, replicate, if◌then◌else◌}
 use Rattle.std.specs.List.{sum_by, list_all, fold}
 use Rattle.mem_net.specs.Schedule.{has_arrived, is_sound, is_plain}
-use Rattle.mem_net.specs.Acts.{arrivals, sent, finish_of, passes, is_end, is_fault}
+use Rattle.mem_net.specs.Acts.{arrivals, sent, finish_of, passes, event_of, is_end, is_fault}
 use Rattle.mem_net.specs.LinkState.{LinkState, new_link, is_ready, is_finish}
 use Rattle.link_trait.specs.NetState.{NetState}
 use Rattle.link_trait.specs.declared.act.Act.{Act}
+use Rattle.link_trait.specs.declared.act.Act.TheVariants as act
 use Rattle.link_trait.specs.declared.net.NetEvent.{NetEvent}
 use Rattle.link_trait.specs.declared.net.NetEvent.TheVariants as event
 
@@ -100,6 +101,33 @@ pub record FollowsSchedule (net : MemNetState) : Type 0 where
   pub stops : net.done < length net.acts → net.answers ≡ length (passes (take net.done net.acts))
   -- while it rests, what can be read was told
   pub told : net.rested ≡ true → AllTold net
+
+-- this event tells the act at a place
+abbrev pub IsEventAt : NetEvent → List Act → ℕ → Type 0
+IsEventAt told acts place = (act : Act) × (slice_get acts place ≡ Some act) × (event_of act ≡ Some told)
+
+-- this act is on the octets of a connection that is not live: it was shut
+abbrev pub IsOfShut : MemNetState → Act → Type 0
+IsOfShut net (act.Octets conn octets) = (link_at net conn.0).live ≡ false
+IsOfShut net (act.End conn) = (link_at net conn.0).live ≡ false
+IsOfShut net (act.ReadFails conn) = (link_at net conn.0).live ≡ false
+IsOfShut net _ = ⊥
+
+-- the act at a place is passed over
+abbrev pub IsPassedOver : MemNetState → ℕ → Type 0
+IsPassedOver net place = (act : Act) × (slice_get net.acts place ≡ Some act) × IsOfShut net act
+
+-- each act from a place on and below another one is passed over
+abbrev pub PassesOver : MemNetState → ℕ → ℕ → Type 0
+PassesOver net from to = (place : ℕ) → from ≤ place → place < to → IsPassedOver net place
+
+-- the answer tells the last act that a call of `next` did, and those before it were passed over
+abbrev pub TellsLast : NetEvent → MemNetState → MemNetState → Type 0
+TellsLast result old new = (last : ℕ) × (old.done ≤ last) × (new.done ≡ last + 1) × IsEventAt result old.acts last × PassesOver old old.done last
+
+-- a call of `next` did no act that it does not tell, but for those that were passed over
+abbrev pub TellsInOrder : NetEvent → MemNetState → MemNetState → Type 0
+TellsInOrder result old new = (new.done ≡ old.done) ⊎ TellsLast result old new ⊎ ((result ≡ event.Stop) × PassesOver old old.done new.done)
 
 -- the links of the connections that arrive among acts, before the first act
 abbrev pub new_links : List Act → List LinkState

@@ -4,7 +4,7 @@ use Rattle.std.specs.List.{list_all}
 use Rattle.link_trait.specs.NetState.{NetState}
 use Rattle.link_trait.specs.Net.{SameNet, SameTraffic, SameLinks, Nexts}
 use Rattle.mem_net.specs.Acts.{arrivals}
-use Rattle.mem_net.specs.MemNet.{MemNetState, net_state, AllTold, FollowsSchedule}
+use Rattle.mem_net.specs.MemNet.{MemNetState, net_state, AllTold, FollowsSchedule, IsEventAt, IsPassedOver}
 use Rattle.link_trait.specs.declared.act.Act.{Act}
 use Rattle.link_trait.specs.declared.act.Act.TheVariants as act
 use Rattle.link_trait.specs.declared.net.NetEvent.{NetEvent}
@@ -51,6 +51,11 @@ abbrev pub DoesEvent : Option NetEvent → NetState → NetState → Type 0
 DoesEvent None old new = Skips old new
 DoesEvent (Some event) old new = Nexts event old new
 
+-- the act that comes next is told by this event, or passed over where it told none
+abbrev pub TellsAct : Option NetEvent → MemNetState → Type 0
+TellsAct None net = IsPassedOver net net.done
+TellsAct (Some event) net = IsEventAt event net.acts net.done
+
 -- nothing comes after these answers
 abbrev pub is_last : NetEvent → Bool
 is_last event.Stop = true
@@ -64,6 +69,7 @@ GoesOn (Some event) = is_last event ≡ false
 pub record Does (result : Option NetEvent) (old new : MemNetState) : Type 0 where
   pub event : DoesEvent result (net_state old) (net_state new)
   pub goes_on : GoesOn result
+  pub tells : TellsAct result old
   pub acts : new.acts ≡ old.acts
   pub one_more : new.done ≡ old.done + 1
   pub whole : new.whole ≡ old.whole

@@ -287,7 +287,7 @@ impl Net for MemNet {
     ghost use Rattle.std.specs.Prelude.{◌≡◌, ◌≢◌, ◌<◌, ◌⊎◌, true, false, length};
     ghost use Rattle.mem_net.specs.LinkState.{LinkReads};
     ghost use Rattle.link_trait.specs.Net.{Listens, Nexts, Reads, Writes, TakesAll, Shuts};
-    ghost use Rattle.mem_net.specs.MemNet.{net_state, link_at, AllTold};
+    ghost use Rattle.mem_net.specs.MemNet.{net_state, link_at, AllTold, TellsInOrder};
 
     ghost state = { net_state };
 
@@ -301,11 +301,13 @@ impl Net for MemNet {
         Listening::Ready
     }
 
-    /// It does no further act while something waits that was not told, and stops once all acts were done. It never fails.
+    /// It does no further act while something waits that was not told, tells each act before it does the next one, and stops
+    /// once all acts were done. It never fails.
     fn next(&mut self) -> NetEvent
         ensures next { Nexts result (net_state self.old) (net_state self.new) }
         ensures unfailing { result ≢ NetEvent.Failed }
         ensures waits { (self.new.done ≡ self.old.done) ⊎ AllTold self.old }
+        ensures tells { TellsInOrder result self.old self.new }
         ensures stops { result ≡ NetEvent.Stop → self.new.done ≡ length self.new.acts }
         ensures whole { self.new.whole ≡ self.old.whole }
     {

@@ -1,14 +1,18 @@
 //! A net in memory, stepped by hand, and the schedules that it follows.
 
-ghost use Rattle.std.specs.Prelude.{◌≡◌};
+ghost use Rattle.std.specs.Prelude.{◌≡◌, ◌≢◌, ◌<◌, ◌≤◌, ◌++◌, ℕ, true, false, length};
 ghost use Rattle.std.specs.List.{list_all};
+ghost use Rattle.ws_kinds.specs.NoteValue.{took};
+ghost use Rattle.ws_kinds.specs.Watch.{IsNoted};
+ghost use Rattle.link_trait.specs.Link.{Rose};
 ghost use Rattle.mem_net.specs.Schedule as spec;
+ghost use Rattle.mem_net.specs.Acts as acts;
 
 use crate::*;
-use link_trait::{Act, Listening, Net, NetEvent, NetRead, NetWrote};
+use link_trait::{Act, Listening, Net, NetEvent, NetRead, NetWrote, Outside};
 use std::alloc::Global;
 use std::test::*;
-use ws_kinds::{Bytes, Conn};
+use ws_kinds::{Bytes, Conn, Note, Recorder, Tally, Watch};
 
 const ONE: Conn = Conn(1);
 
@@ -90,6 +94,33 @@ const RUNS: &[(&[Step], &[Told])] = &[
                 *b"abcd",
             ),
             (Read, Accept(TWO), None, [0; 4]),
+            (Read, Stop, None, [0; 4]),
+        ],
+    ),
+    // and those between them are told
+    (
+        &[
+            Arrive(1),
+            Arrive(2),
+            Octets(1, b"ab"),
+            Octets(2, b"c"),
+            Octets(1, b"d"),
+            Octets(2, b"e"),
+            End(1),
+            Tick,
+        ],
+        &[
+            (Read, Accept(ONE), None, [0; 4]),
+            (Read, Accept(TWO), None, [0; 4]),
+            (
+                ReadAndShut,
+                Readable(ONE),
+                Some(NetRead::Octets(2)),
+                *b"ab\0\0",
+            ),
+            (Read, Readable(TWO), Some(NetRead::Octets(1)), *b"c\0\0\0"),
+            (Read, Readable(TWO), Some(NetRead::Octets(1)), *b"e\0\0\0"),
+            (Read, NetEvent::Tick, None, [0; 4]),
             (Read, Stop, None, [0; 4]),
         ],
     ),
@@ -249,23 +280,109 @@ fn schedules_are_followed(rt: HostRuntime) -> Result<(), Fail> {
     Ok(())
 }
 
-/// What two writes to the connection that comes next take.
-fn written<N: Net>(net: &mut N) -> Option<(NetWrote, NetWrote)> {
-    let Accept(conn) = net.next() else {
-        return None;
+/// The event by which an act is told.
+fn event_of(act: &Act) -> Option<NetEvent>
+    ensures { result ≡ acts.event_of act.now }
+{
+    match act {
+        Act::Arrive { conn, .. } => Some(Accept(*conn)),
+        Act::Octets { conn, .. } => Some(Readable(*conn)),
+        Act::End(conn) => Some(Readable(*conn)),
+        Act::ReadFails(conn) => Some(Readable(*conn)),
+        Act::Room { conn, .. } => Some(NetEvent::Writable(*conn)),
+        Act::WriteFails(_) => None,
+        Act::Tick => Some(NetEvent::Tick),
+        Act::Turn => Some(NetEvent::Turn),
+    }
+}
+
+/// Whether a net tells each of these acts before the next one, and then stops. All that comes is read at once.
+fn tells_each<N: Net>(net: &mut N, acts: &[Act]) -> bool {
+    for act in acts {
+        if event_of(act) != Some(told(net, Read).0) {
+            return false;
+        }
+    }
+    told(net, Read).0 == Stop
+}
+
+/// A schedule of which nothing is passed over, and no read leaves anything.
+const TOLD: &[Step] = &[
+    Arrive(1),
+    Octets(1, b"ab"),
+    Octets(1, b"abcd"),
+    Tick,
+    Arrive(2),
+    Octets(2, b"c"),
+    End(1),
+    ReadFails(2),
+    Turn,
+];
+
+#[test]
+fn acts_are_told_in_order(rt: HostRuntime) -> Result<(), Fail> {
+    let mut net = follow(rt.alloc(), TOLD)?;
+    let schedule = schedule_of(rt.alloc(), TOLD)?;
+    assert!(rt; tells_each(&mut net, schedule.acts()));
+    Ok(())
+}
+
+/// Sends octets to a live connection, and notes what was taken. All that is said of it follows from what every net and every
+/// watch owes.
+fn send<N: Net, W: Watch>(out: &mut Outside<N, W>, to: Conn, octets: &[u8]) -> bool
+    requires live { (N.state out.old.net).live to.0 ≡ true }
+    requires some { 0 < length octets.now }
+    ensures live { (N.state out.new.net).live to.0 ≡ true }
+    ensures taken { result ≡ true → (N.state out.old.net).tells ≡ true → (N.state out.new.net).taken to.0 ≡ (N.state out.old.net).taken to.0 ++ octets.now }
+    ensures others { (N.state out.old.net).tells ≡ true → (other : ℕ) → other ≢ to.0 → (N.state out.new.net).taken other ≡ (N.state out.old.net).taken other }
+    ensures noted { result ≡ true → IsNoted (W.told out.old.watch) (took to.0 (length octets.now) (length octets.now)) (W.told out.new.watch) }
+    ensures unnoted { result ≡ false → W.told out.new.watch ≡ W.told out.old.watch }
+    ensures faults { (N.state out.old.net).faults ≤ (N.state out.new.net).faults }
+    ensures cause { result ≡ false → Rose (N.state out.old.net).faults (N.state out.new.net).faults }
+{
+    match out.net.write(to, octets) {
+        NetWrote::Took(count) => {
+            out.watch.note(&Note::Took {
+                conn: to,
+                offered: octets.len() as u64,
+                took: count as u64,
+            });
+            true
+        }
+        NetWrote::Failed => false,
+    }
+}
+
+/// Whether the connection that comes next takes both pieces.
+fn send_to_the_next<N: Net, W: Watch>(out: &mut Outside<N, W>) -> bool {
+    let Accept(conn) = out.net.next() else {
+        return false;
     };
-    let first = net.write(conn, b"Hel");
-    Some((first, net.write(conn, b"lo")))
+    send(out, conn, b"Hel") && send(out, conn, b"lo")
 }
 
 #[test]
 fn writes_are_taken_whole(rt: HostRuntime) -> Result<(), Fail> {
-    let mut net = follow(rt.alloc(), &[Arrive(2)])?;
-    let wanted = (NetWrote::Took(3), NetWrote::Took(2));
-    assert_eq!(rt; written(&mut net), Some(wanted));
-    assert_eq!(rt; net.taken(TWO), b"Hello".as_slice());
-    assert_eq!(rt; net.taken(ONE), b"".as_slice());
-    assert!(rt; net.whole());
+    let mut out = Outside {
+        net: follow(rt.alloc(), &[Arrive(2)])?,
+        watch: Recorder::new(rt.alloc()),
+        tally: Tally::new(),
+    };
+    assert!(rt; send_to_the_next(&mut out));
+    assert_eq!(rt; out.net.taken(TWO), b"Hello".as_slice());
+    assert_eq!(rt; out.net.taken(ONE), b"".as_slice());
+    assert!(rt; out.net.whole());
+    assert_eq!(rt; out.watch.count(), 2);
+    for (place, octets) in [3, 2].iter().enumerate() {
+        let took = Note::Took {
+            conn: TWO,
+            offered: *octets,
+            took: *octets,
+        };
+        if place < out.watch.count() {
+            assert_eq!(rt; out.watch.at(place), took);
+        }
+    }
     Ok(())
 }
 

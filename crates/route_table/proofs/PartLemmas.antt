@@ -1,16 +1,5 @@
 -- The first parameter of a route takes whole characters of a path that the route's pattern fits.
-use Rattle.std.proofs.Common.{◌≡◌, ℕ, suc, ◌+◌, ◌-◌, ◌<◌, ◌≤◌, List, [], ◌∷◌, ◌++◌, length, take, drop, get_or, Some, Bool, true, false, cond, refl, sym, ap, subst, ◌∙◌, arith, ◌==◌, ltb, leb, ◌&&◌, add-zero, append-nil, append_assoc, length-append, take_at, drop_at, get_or-append-add, IsUtf8, Fits, w8}
-use Rattle.std.proofs.lemmas.List.{get_or_at}
-use Rattle.std.proofs.lemmas.Bool.Decides.{nat_tests}
-use Rattle.std.proofs.lemmas.Str.{IsUtf8-nil, IsUtf8-between, IsCharBoundary-end, IsCharBoundary-from_take}
-use Rattle.std.specs.Str.{IsCharBoundary}
-use Rattle.matchit.specs.Rows.{RowsOf, param_token}
-use Rattle.matchit.specs.Router.{RouteOf}
-use Rattle.matchit.specs.Seek.{first, segment, slash}
-use Rattle.matchit.specs.Level.{IsText}
-use Rattle.matchit.specs.Params.{walk, wild_from, wild_stop, next_at, part_of}
-use Rattle.route_table.specs.Table.{first_value, value_of}
-use Rattle.route_table.specs.Whole.{front_of, rest_of, IsWhole, IsRow, AllRows}
+use Rattle.route_table.proofs.Below.{◌≡◌, ℕ, suc, ◌+◌, ◌-◌, ◌<◌, ◌≤◌, List, [], ◌∷◌, ◌++◌, length, take, drop, get_or, Some, Bool, true, false, cond, refl, sym, ap, subst, ◌∙◌, arith, ◌==◌, ltb, leb, ◌&&◌, add-zero, append-nil, append_assoc, length-append, take_at, drop_at, get_or-append-add, IsUtf8, Fits, w8, get_or_at, nat_tests, IsUtf8-nil, IsUtf8-between, IsCharBoundary-end, IsCharBoundary-from_take, IsCharBoundary, RowsOf, param_token, RouteOf, first, segment, slash, IsText, walk, wild_from, wild_stop, next_at, part_of, first_value, value_of, front_of, rest_of, IsWhole, IsRow, AllRows}
 use Rattle.route_table.proofs.RowLemmas.{TailFits, FitsPath, seek_fits}
 
 -- a boundary at the start of the second of two texts is one of both together

@@ -1,18 +1,5 @@
 -- The pattern that `matchit` reads from a UTF-8 text is whole: a parameter cuts no character.
-use Rattle.std.proofs.Common.{◌≡◌, ◌≢◌, ℕ, suc, ◌+◌, ◌<◌, ◌≤◌, List, [], ◌∷◌, ◌++◌, length, drop, get_or, Option, Some, None, Result, Ok, Err, Bool, true, false, cond, refl, sym, ap, subst, ◌∙◌, arith, ◌==◌, ltb, ◌||◌, ◌&&◌, ◌⊎◌, inl, inr, append-nil, append_assoc, length-append, take_at, drop_at, IsUtf8, Fits, w8}
-use Rattle.std.proofs.lemmas.List.{get_or_at}
-use Rattle.std.proofs.lemmas.Bool.Decides.{nat_tests}
-use Rattle.std.proofs.lemmas.Str.{IsUtf8-append, IsUtf8-take, IsUtf8-drop, IsUtf8-from_ascii, IsCharBoundary-start, IsCharBoundary-before_ascii, IsCharBoundary-after_ascii}
-use Rattle.std.proofs.lemmas.Str.Ascii.{IsAscii-cons, IsAscii-nil}
-use Rattle.std.specs.Str.{IsCharBoundary}
-use Rattle.matchit.specs.Rows.{RowsOf, comes_before, param_token}
-use Rattle.matchit.specs.Router.{RouteOf, InsertsRead, route_from}
-use Rattle.matchit.specs.Order.{placed}
-use Rattle.matchit.specs.Level.{IsText}
-use Rattle.matchit.specs.Route.{Scan, scan_start, push_byte, add_name_byte, closed_scan, open_name, wild_token, feed_outside, feed_named, feed_opened, feed_closed, feed_name_opened, feed_name_closed, after_close, feed, finish, after_feed, scan, after_shape, on_shape, shape_error, parse_route}
-use Rattle.matchit.specs.declared.error.InsertError.{InsertError}
-use Rattle.matchit.specs.declared.error.InsertError.TheVariants.{InvalidParam}
-use Rattle.route_table.specs.Whole.{front_of, rest_of, IsWhole, IsRow, AllRows}
+use Rattle.route_table.proofs.Below.{◌≡◌, ◌≢◌, ℕ, suc, ◌+◌, ◌<◌, ◌≤◌, List, [], ◌∷◌, ◌++◌, length, drop, get_or, Option, Some, None, Result, Ok, Err, Bool, true, false, cond, refl, sym, ap, subst, ◌∙◌, arith, ◌==◌, ltb, ◌||◌, ◌&&◌, ◌⊎◌, inl, inr, append-nil, append_assoc, length-append, take_at, drop_at, IsUtf8, Fits, w8, get_or_at, nat_tests, IsUtf8-append, IsUtf8-take, IsUtf8-drop, IsUtf8-from_ascii, IsCharBoundary-start, IsCharBoundary-before_ascii, IsCharBoundary-after_ascii, IsAscii-cons, IsAscii-nil, IsCharBoundary, RowsOf, comes_before, param_token, RouteOf, InsertsRead, route_from, placed, IsText, Scan, scan_start, push_byte, add_name_byte, closed_scan, open_name, wild_token, feed_outside, feed_named, feed_opened, feed_closed, feed_name_opened, feed_name_closed, after_close, feed, finish, after_feed, scan, after_shape, on_shape, shape_error, parse_route, InsertError, InvalidParam, front_of, rest_of, IsWhole, IsRow, AllRows}
 use Rattle.route_table.proofs.RowLemmas.{less_rows}
 use Rattle.route_table.proofs.PartLemmas.{front_of-literal, rest_of-literal, text_of_octets}
 

@@ -1,12 +1,5 @@
 -- The search of `matchit`: what it gives is the key of a row, and the row's pattern fits the path as far as its first parameter.
-use Rattle.std.proofs.Common.{◌≡◌, ℕ, zero, suc, ◌-◌, ◌<◌, ◌≤◌, List, [], ◌∷◌, ◌++◌, length, take, drop, Option, Some, None, Bool, true, false, cond, refl, sym, ap, subst, ◌∙◌, arith, nat_eq, ◌==◌, ltb, ◌&&◌, ◌⊎◌, inl, inr, take-append-drop}
-use Rattle.std.proofs.lemmas.Bool.Decides.{nat_tests}
-use Rattle.std.specs.Cmp.Lexicographic.{bytes_decides}
-use Rattle.std.specs.List.{ends_with}
-use Rattle.matchit.specs.Rows.{RowsOf, param_token, catch_all_token}
-use Rattle.matchit.specs.Seek.{own, step, or_else, seek, param_step, has_slash, segment, same_text, cuts, better, longest_from, longest_suffix, with_suffix}
-use Rattle.matchit.specs.Level.{IsText}
-use Rattle.route_table.specs.Whole.{AllRows}
+use Rattle.route_table.proofs.Below.{◌≡◌, ℕ, zero, suc, ◌-◌, ◌<◌, ◌≤◌, List, [], ◌∷◌, ◌++◌, length, take, drop, Option, Some, None, Bool, true, false, cond, refl, sym, ap, subst, ◌∙◌, arith, nat_eq, ◌==◌, ltb, ◌&&◌, ◌⊎◌, inl, inr, take-append-drop, nat_tests, bytes_decides, ends_with, RowsOf, param_token, catch_all_token, own, step, or_else, seek, param_step, has_slash, segment, same_text, cuts, better, longest_from, longest_suffix, with_suffix, IsText, AllRows}
 
 -- where the route of some rows ends, the rows have its key
 pub own_row : {K : Type 0} (P : List ℕ → K → Type 0) (rows : RowsOf K) (key : K) → AllRows P rows → own rows ≡ Some key → P [] key

@@ -108,9 +108,7 @@ impl Routes {
             return Err(RouteFault::Full);
         }
         let mut name = ProtocolName::new();
-        if name.try_extend_from_slice(protocol).is_err() {
-            unreachable!("the name is short enough");
-        }
+        name.try_extend_from_slice(protocol).unwrap();
         if self.protocols.reserve(1).is_err() {
             return Err(RouteFault::Memory);
         }

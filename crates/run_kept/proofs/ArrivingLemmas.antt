@@ -1,50 +1,8 @@
 -- What a server keeps while a connection is accepted.
-use Rattle.std.proofs.Common.{◌≡◌, ◌≢◌, ◌<◌, ◌+◌, ◌^◌, ◌-◌, ℕ, List, [], ◌∷◌, ◌++◌, Option, Some, None, Bool, true, false, cond, ◌&&◌, length, refl, sym, ap, ◌∙◌, subst, append-nil, arith}
-use Rattle.std.specs.List.{list_all}
-use Rattle.ws_kinds.specs.declared.conn.Conn.{Conn}
-use Rattle.ws_kinds.specs.declared.note.Phase.{Phase}
-use Rattle.ws_kinds.specs.declared.note.Phase.TheVariants.{Head, Open, Leaving, Ending, Gone}
-use Rattle.ws_kinds.specs.declared.note.Left.TheVariants.{PeerEnd, LinkFailed}
-use Rattle.ws_kinds.specs.ConfigValue.{ConfigValue}
+use Rattle.run_kept.proofs.Below.{◌≡◌, ◌≢◌, ◌<◌, ◌+◌, ◌^◌, ◌-◌, ℕ, List, [], ◌∷◌, ◌++◌, Option, Some, None, Bool, true, false, cond, ◌&&◌, length, refl, sym, ap, ◌∙◌, subst, append-nil, arith, list_all, Conn, Phase, Head, Open, Leaving, Ending, Gone, PeerEnd, LinkFailed, ConfigValue, NoteValue, NetState, Nexts, HasNoTraffic, RouteTable, gather, has_number, accepted_by, closes, is_accepted, Line, World, unknown, moved, after_own, line_after, noted, world, Heard, heard, last_frame, Sound, Follows, gather-append, world_plain, Server, server, has_entry, entry_at, numbered_at, taken_of, is_dropped, IsNewTo, nothing, is_dropped_note, Progress, progress_at, progress_by, unless_gone, items_at, Appends, IsTable, table_of, Arrives, Makes, Taken, Agrees, AreUnlike, agrees_accepted, agrees_untold, told_is, dropped_named, new_above, unlike_more, unaccepted_left, same_or_not, other_accepted, itself, is_other, is_at_most_arrival, next_but, at_none, accepted_follows, not_counted, uncounted_writes, uncounted_taken, uncounted_given, uncounted_gone, head_new, heard-append, IntakeView, HearsAt, Kept}
 use Rattle.ws_kinds.specs.NoteValue as note
-use Rattle.ws_kinds.specs.NoteValue.{NoteValue}
-use Rattle.link_trait.specs.NetState.{NetState}
-use Rattle.link_trait.specs.Net.{Nexts, HasNoTraffic}
 use Rattle.link_trait.specs.declared.net.NetEvent.TheVariants as event
-use Rattle.route_table.specs.Table.{RouteTable}
-use Rattle.run_meaning.specs.Counts.{gather, has_number, accepted_by, closes, is_accepted}
 use Rattle.run_meaning.specs.Server as run
-use Rattle.run_meaning.specs.Lines.{Line, World, unknown, moved, after_own, line_after, noted, world}
-use Rattle.run_meaning.specs.Life.{Heard, heard, last_frame}
-use Rattle.run_meaning.specs.Right.{Sound}
-use Rattle.run_meaning.specs.Network.{Follows}
-use Rattle.run_meaning.proofs.Parts.{gather-append}
-use Rattle.run_meaning.proofs.Worlds.{world_plain}
-use Rattle.hub_lines.specs.State.{Server, server, has_entry, entry_at, numbered_at}
-use Rattle.hub_lines.specs.Told.{taken_of, is_dropped}
-use Rattle.hub_lines.specs.Calls.{IsNewTo, nothing}
-use Rattle.hub_lines.proofs.KeptLemmas.{is_dropped_note}
-use Rattle.hub_notes.specs.Progress.{Progress, progress_at, progress_by}
-use Rattle.run_meaning.specs.Orders.{unless_gone}
-use Rattle.hub_notes.specs.Fronts.{items_at}
-use Rattle.hub_notes.specs.Calls.{Appends}
-use Rattle.hub_notes.specs.Table.{IsTable, table_of}
-use Rattle.hub_notes.specs.Answers.{Arrives, Makes}
-use Rattle.hub_notes.specs.declared.arrival.Arrival.TheVariants.{Taken}
-use Rattle.run_laws.specs.Agrees.{Agrees}
-use Rattle.run_laws.specs.Numbers.{AreUnlike}
-use Rattle.run_laws.proofs.AgreeLemmas.{agrees_accepted, agrees_untold, told_is}
-use Rattle.run_laws.proofs.CarryLemmas.{dropped_named}
-use Rattle.run_laws.proofs.CountLemmas.{new_above, unlike_more}
-use Rattle.run_laws.proofs.WorldLemmas.{unaccepted_left}
-use Rattle.run_laws.proofs.Adding.{same_or_not, itself, is_other, other_accepted}
-use Rattle.run_laws.specs.Unread.{is_at_most_arrival}
-use Rattle.run_laws.proofs.Telling.{next_but}
-use Rattle.run_laws.proofs.Arriving.{at_none, accepted_follows}
-use Rattle.run_laws.proofs.Counting.{not_counted, uncounted_writes, uncounted_taken, uncounted_given, uncounted_gone}
-use Rattle.run_laws.proofs.HearLemmas.{head_new}
-use Rattle.run_laws.proofs.Lives.{heard-append}
-use Rattle.run_kept.specs.Kept.{IntakeView, HearsAt, Kept}
 use Rattle.run_kept.proofs.EntryLemmas.{entry_before}
 use Rattle.run_kept.proofs.IntakeLemmas.{Seen, other_beside}
 use Rattle.run_kept.proofs.PassingLemmas.{none_reads, seen_beside, kept_plain}

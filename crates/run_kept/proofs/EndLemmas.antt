@@ -1,45 +1,10 @@
 -- Who left Open as a turn ended, and which links are live.
-use Rattle.std.proofs.Common.{◌≡◌, ◌≢◌, ◌<◌, ℕ, List, [], ◌∷◌, ◌++◌, Option, Some, None, is_some, Bool, true, false, cond, not, nat_eq, ◌&&◌, refl, sym, ap, ◌∙◌, append-nil, append_assoc, ⊎_elim, arith}
-use Rattle.std.proofs.lemmas.Bool.{cases_eq, not-true}
-use Rattle.std.specs.List.{list_all}
-use Rattle.run_laws.proofs.Adding.{itself, is_same}
-use Rattle.ws_kinds.specs.declared.conn.Conn.{Conn}
-use Rattle.ws_kinds.specs.declared.note.Left.{Left}
-use Rattle.ws_kinds.specs.declared.note.Left.TheVariants.{PeerEnd, LinkFailed, Idle, Finished}
-use Rattle.ws_kinds.specs.declared.note.Phase.{Phase}
-use Rattle.ws_kinds.specs.declared.note.Phase.TheVariants.{Head, Open, Leaving, Ending, Gone}
+use Rattle.run_kept.proofs.Below.{◌≡◌, ◌≢◌, ◌<◌, ℕ, List, [], ◌∷◌, ◌++◌, Option, Some, None, is_some, Bool, true, false, cond, not, nat_eq, ◌&&◌, refl, sym, ap, ◌∙◌, append-nil, append_assoc, ⊎_elim, arith, cases_eq, not-true, list_all, itself, is_same, by_cases, clash, and_left, and_right, or_left, or_right, Conn, Left, PeerEnd, LinkFailed, Idle, Finished, Phase, Head, Open, Leaving, Ending, Gone, NoteValue, NetState, Same, Nexts, Shuts, is_of, is_event, is_unserved, is_gone, is_gone_in, OrderValue, Step, by_note, by_order, notes_of, Line, World, moved, closing, leaves_open, cause_of, is_open, line_after, world, phase, LeftAtEnd, is_sudden, is_last_note, list_all-append, world_plain, HubState, Server, has_entry, is_present, entry_at, is_outgoing, Progress, due_at, progress_at, progress_by, progress_after, progress_after_all, progress_obeys, progress_by_steps, unless_gone, Advances, Does, progress_then, phase_of_away, IsTable, table_of, EndsTurn, finishes, Agrees, own_line, other_line, all_follow, moves_shown, open_shown, rests_of, is_late, AreThere}
 use Rattle.ws_kinds.specs.NoteValue as note
-use Rattle.ws_kinds.specs.NoteValue.{NoteValue}
-use Rattle.link_trait.specs.NetState.{NetState}
-use Rattle.link_trait.specs.Net.{Same, Nexts, Shuts}
 use Rattle.link_trait.specs.declared.net.NetEvent.TheVariants as event
-use Rattle.run_meaning.specs.Notes.{is_of, is_event, is_unserved, is_gone}
-use Rattle.run_meaning.specs.Counts.{is_gone_in}
 use Rattle.run_meaning.specs.Server as run
-use Rattle.ws_kinds.specs.OrderValue.{OrderValue}
-use Rattle.run_meaning.specs.Steps.{Step, by_note, by_order, notes_of}
-use Rattle.run_meaning.specs.Lines.{Line, World, moved, closing, leaves_open, cause_of, is_open, line_after, world, phase}
-use Rattle.run_meaning.specs.Settled.{LeftAtEnd, is_sudden, is_last_note}
-use Rattle.run_meaning.proofs.Parts.{list_all-append}
-use Rattle.run_meaning.proofs.Worlds.{world_plain}
 use Rattle.hub_lines.specs.State as hub
-use Rattle.hub_lines.specs.State.{HubState, Server, Entry, has_entry, is_present, entry_at}
-use Rattle.run_meaning.specs.Performs.{is_outgoing}
-use Rattle.hub_notes.specs.Progress.{Progress, due_at, progress_at, progress_by, progress_after, progress_after_all, progress_obeys, progress_by_steps}
-use Rattle.run_meaning.specs.Orders.{unless_gone}
-use Rattle.hub_notes.specs.Calls.{Advances, Does}
-use Rattle.hub_notes.proofs.BoolLemmas.{by_cases, clash, and_left, and_right, or_left, or_right}
-use Rattle.hub_notes.proofs.NoteLemmas.{progress_then}
-use Rattle.hub_notes.proofs.TieLemmas.{phase_of_away}
-use Rattle.hub_notes.specs.Table.{IsTable, table_of}
-use Rattle.hub_notes.specs.Turns.{EndsTurn, finishes}
-use Rattle.run_laws.specs.Agrees.{Agrees}
-use Rattle.run_meaning.proofs.LineLemmas.{own_line, other_line}
-use Rattle.run_meaning.proofs.NoteLemmas.{all_follow}
-use Rattle.run_meaning.proofs.StepLemmas.{moves_shown, open_shown}
-use Rattle.run_laws.proofs.AgreeLemmas.{rests_of}
 use Rattle.run_kept.proofs.EntryLemmas.{order_phase}
-use Rattle.run_kept.specs.Ends.{is_late, AreThere}
 
 -- ---- a note at the end of a turn
 
@@ -302,7 +267,7 @@ there_else : (conn : Conn) (ns : List NoteValue) (a b : Server) (net : NetState)
 there_else conn ns a b net next x there c ne live = there_then ns (hub.server a.hub net a.told) b c x (λ t. there c (sym (next.event.live_elsewhere c ne) ∙ t)) live
 
 -- a number above all that were accepted is that of no entry
-new_away : (h : HubState) (c : ℕ) → IsTable (table_of h) → h.named < c → is_present h c ≡ false
+pub new_away : (h : HubState) (c : ℕ) → IsTable (table_of h) → h.named < c → is_present h c ≡ false
 new_away h c table above = by_cases (has_entry h.entries c)
     (λ has. absurd (let low = table.named c has in omega arith))
     (λ none. or_left (is_present h c) (is_some (due_at h c)) (sym (table.kept c) ∙ none))

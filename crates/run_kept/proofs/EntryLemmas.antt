@@ -1,22 +1,6 @@
 -- Who is an entry of a hub after a call was one before.
-use Rattle.std.proofs.Common.{◌≡◌, ◌⊎◌, inl, inr, ⊎_elim, ℕ, List, [], ◌∷◌, Option, Some, None, is_some, Bool, true, false, cond, nat_eq, not, ◌||◌, refl, sym, ap, ◌∙◌, subst}
-use Rattle.ws_kinds.specs.declared.note.Phase.{Phase}
-use Rattle.ws_kinds.specs.declared.note.Phase.TheVariants.{Head, Open, Leaving, Ending, Gone}
-use Rattle.ws_kinds.specs.NoteValue.{NoteValue}
-use Rattle.ws_kinds.specs.OrderValue.{OrderValue, send, subscribe, unsubscribe, publish, close}
-use Rattle.run_meaning.specs.Notes.{is_of}
-use Rattle.run_meaning.specs.Counts.{has_number, accepted_by, is_accepted}
-use Rattle.run_meaning.specs.Lines.{moved, closing, leaves_open, topics_left, with_topic, without_topic, cause_of}
-use Rattle.run_meaning.specs.Orders.{unless_gone}
-use Rattle.run_meaning.specs.Steps.{Step, by_note, by_order, notes_of}
-use Rattle.run_meaning.proofs.StepLemmas.{none_moves}
+use Rattle.run_kept.proofs.Below.{◌≡◌, ◌⊎◌, inl, inr, ⊎_elim, ℕ, List, [], ◌∷◌, Option, Some, None, is_some, Bool, true, false, cond, nat_eq, not, ◌||◌, refl, sym, ap, ◌∙◌, subst, Phase, Head, Open, Leaving, Ending, Gone, NoteValue, OrderValue, send, subscribe, unsubscribe, publish, close, is_of, has_number, accepted_by, is_accepted, moved, closing, leaves_open, topics_left, with_topic, without_topic, cause_of, unless_gone, Step, by_note, by_order, notes_of, none_moves, HubState, Server, has_entry, entry_at, phase_at, Progress, progress_at, due_at, progress_by, progress_after, progress_after_all, progress_obeys, progress_by_steps, Advances, Does, IsTable, table_of, by_cases, clash, or_left, or_right, rest_unaccepted}
 use Rattle.hub_lines.specs.State as hub
-use Rattle.hub_lines.specs.State.{HubState, Server, has_entry, entry_at, is_present, phase_at}
-use Rattle.hub_notes.specs.Progress.{Progress, progress_at, due_at, progress_by, progress_after, progress_after_all, progress_obeys, progress_by_steps}
-use Rattle.hub_notes.specs.Calls.{Advances, Does}
-use Rattle.hub_notes.specs.Table.{IsTable, table_of}
-use Rattle.hub_notes.proofs.BoolLemmas.{by_cases, clash, or_left, or_right}
-use Rattle.run_laws.proofs.ProgressLemmas.{rest_unaccepted}
 
 -- where nothing is left of a connection
 pub record IsAway (p : Progress) : Type 0 where

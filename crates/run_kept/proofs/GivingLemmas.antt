@@ -1,57 +1,9 @@
 -- An event is noted, the handler is given it, and its orders are served.
-use Rattle.std.proofs.Common.{◌≡◌, ◌≢◌, ◌+◌, ⊎_elim, is_some, ℕ, suc, List, [], ◌∷◌, ◌++◌, Option, Some, None, Bool, true, false, not, cond, ◌&&◌, ◌||◌, refl, sym, ap, ◌∙◌, subst, append-nil, append_assoc, arith}
-use Rattle.std.proofs.lemmas.Bool.{cases_eq}
-use Rattle.std.specs.List.{list_all, list_any}
-use Rattle.std.proofs.Math.Bool.{or-true}
-use Rattle.ws_kinds.specs.declared.kind.Kind.{Kind}
-use Rattle.ws_kinds.specs.declared.note.Phase.{Phase}
-use Rattle.ws_kinds.specs.declared.note.Phase.TheVariants.{Head, Open}
-use Rattle.ws_kinds.specs.ConfigValue.{ConfigValue}
+use Rattle.run_kept.proofs.Below.{◌≡◌, ◌≢◌, ◌+◌, ⊎_elim, is_some, ℕ, suc, List, [], ◌∷◌, ◌++◌, Option, Some, None, Bool, true, false, not, cond, ◌&&◌, ◌||◌, refl, sym, ap, ◌∙◌, subst, append-nil, append_assoc, arith, cases_eq, list_all, list_any, or-true, Kind, Phase, Head, Open, ConfigValue, NoteValue, EventValue, WhatValue, OrderValue, AreNoted, reply, NetState, RouteTable, is_of, is_acceptance, gather, accepted_by, Line, World, moved, is_frame, route_after, param_after, after_own, noted, noted_all, orders_of, world, phase, Ordered, event_at, Heard, opened, read, heard, last_frame, is_frame_heard, frames_in, Follows, is_outgoing, Step, notes_of, world_frames, noted_line, own_line, all_follow, all_then, HubState, PartingValue, Server, Entry, has_entry, is_present, nothing, only, progress_at, Advances, Proceeds, Appends, Does, ServesAll, IsTable, TakesDue, table_of, by_cases, clash, itself, is_other, unaccepted, outgoing_unaccepted, Agrees, AreUnlike, is_of_orders, IsRead, HearsFrames, but_none, none_but, gathers_none, told_is, agrees_aside, agrees_closed, frames_read, agrees_note, items_opened, agrees_hub_phase, due_taken, heard_then_opened, heard_then_event, orders_follow, proceeds_follows, outgoing_of_orders, orders_unaccepting, served_notes, agrees_orders, ordered_orders, orders_keep, aside_follows, IntakeView, HearsAt, SameButReader, Kept, event_for, OrdersServed}
 use Rattle.ws_kinds.specs.NoteValue as note
-use Rattle.ws_kinds.specs.NoteValue.{NoteValue}
 use Rattle.ws_kinds.specs.EventValue as event
-use Rattle.ws_kinds.specs.EventValue.{EventValue, WhatValue}
-use Rattle.ws_kinds.specs.OrderValue.{OrderValue}
-use Rattle.ws_kinds.specs.Watch.{AreNoted}
 use Rattle.wire_meaning.specs.Event as wire
-use Rattle.wire_meaning.specs.Answer.{reply}
-use Rattle.link_trait.specs.NetState.{NetState}
-use Rattle.route_table.specs.Table.{RouteTable}
-use Rattle.run_meaning.specs.Notes.{is_of, is_acceptance}
-use Rattle.run_meaning.specs.Counts.{gather, accepted_by}
 use Rattle.run_meaning.specs.Server as run
-use Rattle.run_meaning.specs.Lines.{Line, World, moved, is_frame, route_after, param_after, after_own, noted, noted_all, orders_of, world, phase}
-use Rattle.run_meaning.specs.Orders.{Ordered, event_at}
-use Rattle.run_meaning.specs.Life.{Heard, opened, read, heard, last_frame, is_frame_heard, frames_in}
-use Rattle.run_meaning.specs.Network.{Follows}
-use Rattle.run_meaning.specs.Performs.{is_outgoing}
-use Rattle.run_meaning.specs.Steps.{Step, notes_of}
-use Rattle.run_meaning.proofs.Leaving.{world_frames}
-use Rattle.run_meaning.proofs.LineLemmas.{noted_line, own_line}
-use Rattle.run_meaning.proofs.NoteLemmas.{all_follow, all_then}
-use Rattle.hub_lines.specs.State.{HubState, PartingValue, Server, Entry, has_entry, is_present}
-use Rattle.hub_lines.specs.Calls.{nothing, only}
-use Rattle.hub_notes.specs.Progress.{progress_at}
-use Rattle.hub_notes.specs.Calls.{Advances, Proceeds, Appends, Does}
-use Rattle.hub_notes.specs.Serving.{ServesAll}
-use Rattle.hub_notes.specs.Table.{IsTable, TakesDue, table_of}
-use Rattle.hub_notes.proofs.BoolLemmas.{by_cases, clash}
-use Rattle.hub_notes.proofs.TieLemmas.{unaccepted, outgoing_unaccepted}
-use Rattle.run_laws.specs.Agrees.{Agrees}
-use Rattle.run_laws.specs.Numbers.{AreUnlike}
-use Rattle.run_laws.specs.Tests.{is_of_orders}
-use Rattle.run_laws.specs.Readers.{IsRead}
-use Rattle.run_laws.specs.Hears.{HearsFrames}
-use Rattle.run_laws.proofs.Adding.{itself, is_other, but_none, none_but, gathers_none}
-use Rattle.run_laws.proofs.AgreeLemmas.{told_is, agrees_aside, agrees_closed}
-use Rattle.run_laws.proofs.HearLemmas.{frames_read}
-use Rattle.run_laws.proofs.HubLemmas.{agrees_note, items_opened, agrees_hub_phase, due_taken}
-use Rattle.run_laws.proofs.Lives.{heard_then_opened, heard_then_event}
-use Rattle.run_laws.proofs.Proceeding.{orders_follow, proceeds_follows}
-use Rattle.run_laws.proofs.StepLemmas.{outgoing_of_orders, orders_unaccepting, served_notes, agrees_orders, ordered_orders, orders_keep}
-use Rattle.run_laws.proofs.Telling.{aside_follows}
-use Rattle.run_kept.specs.Kept.{IntakeView, HearsAt, SameButReader, Kept}
-use Rattle.run_kept.specs.Giving.{event_for, OrdersServed}
 use Rattle.run_kept.proofs.EntryLemmas.{IsAway, entry_none, entry_through, away_after, phase_has_entry}
 use Rattle.run_kept.proofs.IntakeLemmas.{Taken, is_beside, other_beside, orders_idle, outgoing_beside, orders_beside, heard_beside, taken_note, taken_lines, taken_put, taken_order}
 use Rattle.run_kept.proofs.PassingLemmas.{none_reads, same_told, taken_as, taken_of, same_numbers}
@@ -171,7 +123,7 @@ module _ {S : Type 0} (r : run.Server S) (f : ConfigValue) (ns : List NoteValue)
 
 -- ---- the connection of a note
 
-not_read : (conn c : ℕ) → c ≢ conn → Some conn ≢ Some c
+pub not_read : (conn c : ℕ) → c ≢ conn → Some conn ≢ Some c
 not_read conn c ne z = ne (let q : c ≡ conn = cc in q)
 
 -- the event of a note is the one that is given, where the line has this route and this parameter

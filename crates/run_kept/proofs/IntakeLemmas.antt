@@ -1,33 +1,7 @@
 -- What is kept of one connection, by its line: as notes are made by which nothing is heard of it, and as orders are served.
-use Rattle.std.proofs.Common.{◌≡◌, ◌≢◌, ◌⊎◌, ◌+◌, inl, inr, ℕ, List, [], ◌∷◌, ◌++◌, Option, Some, None, is_none, Bool, true, false, not, cond, ◌&&◌, ◌||◌, refl, sym, ap, ◌∙◌, subst}
-use Rattle.std.specs.List.{list_all}
-use Rattle.std.proofs.Math.Bool.{or-true}
-use Rattle.ws_kinds.specs.declared.note.Phase.{Phase}
-use Rattle.ws_kinds.specs.declared.note.Phase.TheVariants.{Head, Open, Leaving, Ending, Gone}
+use Rattle.run_kept.proofs.Below.{◌≡◌, ◌≢◌, ◌⊎◌, ◌+◌, inl, inr, ℕ, List, [], ◌∷◌, ◌++◌, Option, Some, None, is_none, Bool, true, false, not, cond, ◌&&◌, ◌||◌, refl, sym, ap, ◌∙◌, subst, list_all, or-true, Phase, Head, Open, Leaving, Ending, Gone, NoteValue, OrderValue, send, subscribe, unsubscribe, publish, close, Item, RouteTable, Judged, undecided, is_of, Line, moved, closing, is_open, is_frame, route_after, param_after, line_after, after_own, put, obey, Heard, heard, frames_in, is_outgoing, is_for, lines_after, all_follow, act, obey_not, obey_does, by_cases, clash, and_left, and_right, is_of_orders, is_hearing, is_unheard, ReaderView, HearsFront, HearsFrames, front_of_frames, front_of_head, front_of_all, frames_leave, heard_unheard, IntakeView, HearsAt, RestsAt, IsRouted, is_idle}
 use Rattle.ws_kinds.specs.NoteValue as note
-use Rattle.ws_kinds.specs.NoteValue.{NoteValue}
-use Rattle.ws_kinds.specs.OrderValue.{OrderValue, send, subscribe, unsubscribe, publish, close}
-use Rattle.wire_meaning.specs.Answer.{Item}
-use Rattle.route_table.specs.Table.{RouteTable}
-use Rattle.upgrade_head.specs.Judged.{Judged, more as undecided}
-use Rattle.run_meaning.specs.Notes.{is_of}
 use Rattle.run_meaning.specs.Server as run
-use Rattle.run_meaning.specs.Lines.{Line, moved, closing, is_open, is_frame, route_after, param_after, line_after, after_own, put, obey}
-use Rattle.run_meaning.specs.Life.{Heard, heard, frames_in}
-use Rattle.run_meaning.specs.Performs.{is_outgoing}
-use Rattle.run_meaning.specs.Steps.{is_for}
-use Rattle.run_meaning.proofs.LineLemmas.{lines_after}
-use Rattle.run_meaning.proofs.NoteLemmas.{all_follow}
-use Rattle.run_meaning.proofs.StepLemmas.{act, obey_not, obey_does}
-use Rattle.hub_notes.proofs.BoolLemmas.{by_cases, clash, and_left, and_right}
-use Rattle.run_laws.specs.Tests.{is_of_orders}
-use Rattle.run_laws.specs.Unheard.{is_hearing, is_unheard}
-use Rattle.run_laws.specs.Readers.{ReaderView}
-use Rattle.run_laws.specs.Hears.{HearsFront, HearsFrames}
-use Rattle.run_laws.proofs.HearLemmas.{front_of_frames, front_of_head, front_of_all, frames_leave}
-use Rattle.run_laws.proofs.Lives.{heard_unheard}
-use Rattle.run_kept.specs.Kept.{IntakeView, HearsAt, RestsAt, IsRouted}
-use Rattle.run_kept.specs.Passing.{is_idle}
 
 -- ---- notes by which nothing is heard of a connection
 
@@ -144,7 +118,7 @@ pub record Taken (table : RouteTable) (max : ℕ) (heard : List Heard) (octets :
 module _ (table : RouteTable) (max : ℕ) (hs : List Heard) (octets : List ℕ) (reader : ReaderView) where
   to_gone : (p : Option Phase) (last : Option ℕ) → HearsAt table max p last hs octets reader → p ≢ None → (p ≡ Some Head → Judged table octets undecided) → HearsFront table max last hs octets
   to_gone None last h ne judged = absurd (ne refl)
-  to_gone (Some Head) last h ne judged = subst (λ (z : Option ℕ). HearsFront table max z hs octets) (sym h.0) (front_of_head table max hs octets undecided reader h.1 (judged refl))
+  to_gone (Some Head) last h ne judged = subst (λ (z : Option ℕ). HearsFront table max z hs octets) (sym h.0) (front_of_head table max hs octets reader h.1 (judged refl))
   to_gone (Some Open) last h ne judged = subst (λ (z : Option ℕ). HearsFront table max z hs octets) (sym h.0) (front_of_frames table max None hs octets reader h.1)
   to_gone (Some Leaving) last h ne judged = subst (λ (z : Option ℕ). HearsFront table max z hs octets) (sym h.1) (front_of_frames table max (Some h.0) hs octets reader h.2)
   to_gone (Some Ending) last h ne judged = front_of_all table max last hs octets h

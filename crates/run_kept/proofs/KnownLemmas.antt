@@ -1,31 +1,7 @@
 -- Who was accepted and who is gone.
-use Rattle.std.proofs.Common.{◌≡◌, ⊎_elim, ◌≢◌, ℕ, List, [], ◌∷◌, ◌++◌, Option, Some, None, is_some, Bool, true, false, cond, ◌&&◌, ◌||◌, refl, sym, ap, ◌∙◌, subst, append-nil, append_assoc}
-use Rattle.std.specs.List.{list_any}
-use Rattle.std.proofs.Math.Bool.{or-true, and-false}
-use Rattle.run_laws.proofs.Adding.{is_same}
-use Rattle.ws_kinds.specs.declared.note.Phase.{Phase}
-use Rattle.ws_kinds.specs.declared.note.Phase.TheVariants.{Head, Open, Leaving, Ending, Gone}
-use Rattle.ws_kinds.specs.ConfigValue.{ConfigValue}
+use Rattle.run_kept.proofs.Below.{◌≡◌, ⊎_elim, ◌≢◌, ℕ, List, [], ◌∷◌, ◌++◌, Option, Some, None, is_some, Bool, true, false, cond, ◌&&◌, ◌||◌, refl, sym, ap, ◌∙◌, subst, append-nil, append_assoc, list_any, or-true, and-false, is_same, by_cases, clash, or_left, or_right, or_false, Phase, Head, Open, Leaving, Ending, Gone, ConfigValue, NoteValue, OrderValue, is_of, is_gone, conn_of, has_number, accepted_by, is_accepted, is_gone_in, World, moved, closing, world, is_gone_phase, phase, is_arrival, accepted-append, gone-append, Server, Progress, progress_at, progress_by, progress_after, progress_after_all, progress_obeys, unless_gone, Advances, Agrees, closing_some, phase_some, unaccepted_phase, rest_unaccepted, Known, IsHere, Shows, AreSound, is_departure}
 use Rattle.ws_kinds.specs.NoteValue as note
-use Rattle.ws_kinds.specs.NoteValue.{NoteValue}
-use Rattle.ws_kinds.specs.OrderValue.{OrderValue}
-use Rattle.run_meaning.specs.Notes.{is_of, is_gone, conn_of}
-use Rattle.run_meaning.specs.Counts.{has_number, accepted_by, is_accepted, is_gone_in}
 use Rattle.run_meaning.specs.Server as run
-use Rattle.run_meaning.specs.Lines.{World, moved, closing, world, is_gone_phase, phase}
-use Rattle.run_meaning.specs.Right.{is_arrival}
-use Rattle.run_meaning.proofs.Parts.{accepted-append, gone-append}
-use Rattle.hub_lines.specs.State.{Server}
-use Rattle.hub_notes.specs.Progress.{Progress, progress_at, progress_by, progress_after, progress_after_all, progress_obeys}
-use Rattle.run_meaning.specs.Orders.{unless_gone}
-use Rattle.hub_notes.specs.Calls.{Advances}
-use Rattle.hub_notes.proofs.BoolLemmas.{by_cases, clash, or_left, or_right, or_false}
-use Rattle.run_laws.specs.Agrees.{Agrees}
-use Rattle.run_laws.proofs.WorldLemmas.{closing_some, phase_some, unaccepted_phase}
-use Rattle.run_laws.proofs.ProgressLemmas.{rest_unaccepted}
-use Rattle.run_kept.specs.Known.{Known, IsHere, Shows}
-use Rattle.run_kept.specs.Sounds.{AreSound}
-use Rattle.run_kept.specs.Tests.{is_departure}
 use Rattle.run_kept.proofs.EntryLemmas.{order_phase}
 use Rattle.run_kept.proofs.PhaseLemmas.{phase_after, after_some, after_gone, gone_own, gone_after, gone_then, gone_ever, world_gone}
 
@@ -42,14 +18,6 @@ gone_one c ns n = gone-append c ns (n ∷ []) ∙ ap (λ (z : Bool). is_gone_in 
 pub some_is : (p : Option Phase) → p ≢ None → is_some p ≡ true
 some_is None h = absurd (h refl)
 some_is (Some q) h = refl
-
-pub gone_is : (p : Option Phase) → is_gone_phase p ≡ true → p ≡ Some Gone
-gone_is None e = clash false refl e
-gone_is (Some Head) e = clash false refl e
-gone_is (Some Open) e = clash false refl e
-gone_is (Some Leaving) e = clash false refl e
-gone_is (Some Ending) e = clash false refl e
-gone_is (Some Gone) e = refl
 
 -- ---- the world of notes that are sound
 

@@ -18,3 +18,5 @@ pub mod KnownLemmas
 pub mod PhaseLemmas
 pub mod PlaceLemmas
 pub mod SoundTurnLemmas
+pub mod Below
+pub mod All

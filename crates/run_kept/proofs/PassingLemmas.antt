@@ -1,29 +1,7 @@
 -- What is kept over calls that give no event and serve no order.
-use Rattle.std.proofs.Common.{◌≡◌, ◌≢◌, ℕ, List, [], ◌++◌, Option, Some, None, true, false, refl, sym, ap, ◌∙◌, subst, append-nil}
-use Rattle.std.specs.List.{list_any, list_all}
-use Rattle.ws_kinds.specs.declared.note.Phase.TheVariants.{Head}
-use Rattle.ws_kinds.specs.ConfigValue.{ConfigValue}
+use Rattle.run_kept.proofs.Below.{◌≡◌, ◌≢◌, ℕ, List, [], ◌++◌, Option, Some, None, true, false, refl, sym, ap, ◌∙◌, subst, append-nil, list_any, list_all, Head, ConfigValue, NoteValue, RouteTable, is_event, is_unserved, gather, accepted_by, Line, World, noted_all, world, phase, Heard, heard, Follows, world_frames, lines_after, all_follow, none_follow, gather-append, Server, has_entry, clash, Agrees, AreUnlike, gathers_none, world_more, line_more, ordered_more, state_more, IntakeView, HearsAt, RestsAt, IsRouted, Kept, is_passing}
 use Rattle.ws_kinds.specs.NoteValue as note
-use Rattle.ws_kinds.specs.NoteValue.{NoteValue}
-use Rattle.route_table.specs.Table.{RouteTable}
-use Rattle.run_meaning.specs.Notes.{is_event, is_unserved}
-use Rattle.run_meaning.specs.Counts.{gather, accepted_by}
 use Rattle.run_meaning.specs.Server as run
-use Rattle.run_meaning.specs.Lines.{Line, World, noted_all, world, phase}
-use Rattle.run_meaning.specs.Life.{Heard, heard}
-use Rattle.run_meaning.specs.Network.{Follows}
-use Rattle.run_meaning.proofs.Leaving.{world_frames}
-use Rattle.run_meaning.proofs.LineLemmas.{lines_after}
-use Rattle.run_meaning.proofs.NoteLemmas.{all_follow, none_follow}
-use Rattle.run_meaning.proofs.Parts.{gather-append}
-use Rattle.hub_lines.specs.State.{Server, has_entry}
-use Rattle.hub_notes.proofs.BoolLemmas.{clash}
-use Rattle.run_laws.specs.Agrees.{Agrees}
-use Rattle.run_laws.specs.Numbers.{AreUnlike}
-use Rattle.run_laws.proofs.Adding.{gathers_none}
-use Rattle.run_laws.proofs.WorldLemmas.{world_more, line_more, ordered_more, state_more}
-use Rattle.run_kept.specs.Kept.{IntakeView, HearsAt, RestsAt, IsRouted, Kept}
-use Rattle.run_kept.specs.Passing.{is_passing}
 use Rattle.run_kept.proofs.IntakeLemmas.{Seen, Taken, is_beside, rests_judged, heard_beside, taken_lines}
 
 pub none_reads : (c : ℕ) → None ≢ Some c

@@ -1,30 +1,13 @@
 -- Who is gone, by the notes.
-use Rattle.std.proofs.Common.{◌≡◌, ℕ, List, [], ◌∷◌, ◌++◌, Option, Some, None, is_some, Bool, true, false, cond, nat_eq, ◌&&◌, ◌||◌, refl, sym, ap, ◌∙◌}
-use Rattle.std.proofs.Math.Bool.{and-false, or_assoc}
-use Rattle.ws_kinds.specs.declared.note.Phase.{Phase}
-use Rattle.ws_kinds.specs.declared.note.Phase.TheVariants.{Head, Open, Leaving, Ending, Gone}
+use Rattle.run_kept.proofs.Below.{◌≡◌, ℕ, List, [], ◌∷◌, ◌++◌, Option, Some, None, is_some, Bool, true, false, cond, nat_eq, ◌&&◌, ◌||◌, refl, sym, ap, ◌∙◌, and-false, or_assoc, Phase, Head, Open, Leaving, Ending, Gone, NoteValue, OrderValue, send, subscribe, unsubscribe, publish, close, is_of, is_gone, window, is_acceptance, gather, has_number, accepted_by, is_accepted, Line, World, moved, closing, line_after, after_own, step, run, first_world, is_refused, is_gone_phase, phase, has_number-append, act, gone_stays, or_false, and_true, moved_some, accepted_own, obeys_by, act_some, step_same, is_departure}
 use Rattle.ws_kinds.specs.NoteValue as note
-use Rattle.ws_kinds.specs.NoteValue.{NoteValue}
-use Rattle.ws_kinds.specs.OrderValue.{OrderValue, send, subscribe, unsubscribe, publish, close}
-use Rattle.run_meaning.specs.Notes.{is_of, is_gone, window, is_acceptance}
-use Rattle.run_meaning.specs.Counts.{gather, has_number, accepted_by, is_accepted}
 use Rattle.run_meaning.specs.Server as run
-use Rattle.run_meaning.specs.Lines.{Line, World, moved, closing, line_after, after_own, step, run, first_world, is_refused, is_gone_phase, phase}
-use Rattle.run_meaning.proofs.Kept.{has_number-append}
-use Rattle.run_meaning.proofs.StepLemmas.{act}
-use Rattle.hub_notes.proofs.BoolLemmas.{or_false, and_true}
-use Rattle.run_laws.proofs.WorldLemmas.{moved_some, accepted_own, obeys_by, act_some, step_same}
-use Rattle.run_kept.specs.Tests.{is_departure}
 
 -- ---- one note
 
 -- a phase after a note, and after notes
 abbrev pub phase_after : ℕ → NoteValue → Option Phase → Option Phase
 phase_after c n p = cond (is_of c n) (moved p n) p
-
-gone_stays : (n : NoteValue) → moved (Some Gone) n ≡ Some Gone
-gone_stays (note.gone d left) = refl
-gone_stays _ = refl
 
 moved_gone : (p : Option Phase) (n : NoteValue) → is_gone_phase (moved p n) ≡ (is_gone_phase p || (is_some p && is_departure n))
 moved_gone None (note.accepted c) = refl

@@ -1,30 +1,7 @@
 -- Single notes that are sound at their place, and lists of them.
-use Rattle.std.proofs.Common.{◌≡◌, ◌≤◌, ℕ, List, [], ◌∷◌, ◌++◌, Option, Some, None, is_some, Bool, true, false, cond, nat_eq, nat_lt, ◌&&◌, ◌||◌, length, refl, sym, ap, ◌∙◌, subst, arith}
-use Rattle.std.proofs.lemmas.Bool.Decides.{nat_tests}
-use Rattle.std.specs.List.{list_all, list_any}
-use Rattle.std.proofs.Math.Bool.{or-true}
-use Rattle.ws_kinds.specs.declared.note.Left.TheVariants.{PeerEnd, LinkFailed, Idle, Finished}
-use Rattle.ws_kinds.specs.declared.note.Phase.{Phase}
-use Rattle.ws_kinds.specs.ConfigValue.{ConfigValue}
+use Rattle.run_kept.proofs.Below.{◌≡◌, ◌≤◌, ℕ, List, [], ◌∷◌, ◌++◌, Option, Some, None, is_some, Bool, true, false, cond, nat_eq, ◌&&◌, ◌||◌, length, refl, sym, ap, ◌∙◌, subst, arith, nat_tests, list_all, list_any, or-true, PeerEnd, LinkFailed, Idle, Finished, Phase, ConfigValue, NoteValue, all_spelled, is_of, conn_of, has_number, accepted_by, is_accepted, is_gone_in, taken, closes, all_follow, gathers_none, phase, world, kept, is_ending, Sound, NoneDue, is_arrival, is_busy, is_from_outside, may_follow_gone, entries, early, late, place_of, is_outgoing, Progress, progress_after_all, may_come, may_all_come, clash, and_left, and_right, may_then, AreSound, is_inner}
 use Rattle.ws_kinds.specs.NoteValue as note
-use Rattle.ws_kinds.specs.NoteValue.{NoteValue}
-use Rattle.wire_meaning.specs.Answer.{all_spelled}
-use Rattle.run_meaning.specs.Notes.{is_of, conn_of}
-use Rattle.run_meaning.specs.Counts.{has_number, accepted_by, is_accepted, is_gone_in, taken}
-use Rattle.run_meaning.proofs.NoteLemmas.{all_follow}
-use Rattle.run_laws.proofs.Adding.{gathers_none}
 use Rattle.run_meaning.specs.Server as run
-use Rattle.run_meaning.specs.Lines.{phase}
-use Rattle.run_meaning.specs.Kept.{kept}
-use Rattle.run_meaning.specs.Settled.{is_ending}
-use Rattle.run_meaning.specs.Right.{Sound, is_arrival, is_busy, may_follow_gone, entries}
-use Rattle.run_meaning.proofs.Parts.{early, late, place_of}
-use Rattle.run_meaning.specs.Performs.{is_outgoing}
-use Rattle.hub_notes.specs.Progress.{Progress, progress_after_all, may_come, may_all_come}
-use Rattle.hub_notes.proofs.BoolLemmas.{clash, and_left, and_right}
-use Rattle.hub_notes.proofs.NoteLemmas.{may_then}
-use Rattle.run_kept.specs.Sounds.{AreSound}
-use Rattle.run_kept.specs.Tests.{is_inner}
 
 -- ---- tests
 
@@ -37,7 +14,8 @@ inner_arrival _ e = refl
 -- of a connection that has no phase no such note comes
 inner_none : (n : NoteValue) → is_inner n ≡ true → may_come None n ≡ true → is_some (conn_of n) ≡ false
 inner_none note.turn e h = refl
-inner_none note.tick e h = refl
+inner_none note.tick e h = clash false refl e
+inner_none (note.given c count) e h = clash false refl e
 inner_none (note.accepted c) e h = clash false refl e
 inner_none (note.busy c) e h = clash false refl e
 inner_none (note.no_room c) e h = clash false refl e
@@ -46,7 +24,18 @@ inner_none (note.closed c code reason) e h = clash false refl e
 inner_none _ e h = clash false refl h
 
 inner_given : (n : NoteValue) → is_inner n ≡ true → (c count : ℕ) → n ≡ note.given c count → 1 ≤ count
-inner_given n e c count same = let h : nat_lt 0 count ≡ true = sym (ap is_inner same) ∙ e in grind (arith, nat_tests)
+inner_given n e c count same = clash false refl (sym (ap is_inner same) ∙ e)
+
+inner_inside : (n : NoteValue) → is_inner n ≡ true → is_from_outside n ≡ false
+inner_inside (note.accepted c) e = clash false refl e
+inner_inside (note.busy c) e = clash false refl e
+inner_inside (note.no_room c) e = clash false refl e
+inner_inside (note.given c count) e = clash false refl e
+inner_inside note.tick e = clash false refl e
+inner_inside _ e = refl
+
+inner_untold : (n : NoteValue) → is_inner n ≡ true → (c code : ℕ) (reason : List ℕ) → n ≡ note.closed c code reason → ⊥
+inner_untold n e c code reason same = clash false refl (sym (ap is_inner same) ∙ e)
 
 inner_stays : (n : NoteValue) → is_inner n ≡ true → (c : ℕ) → n ≡ note.gone c Finished → ⊥
 inner_stays n e c same = clash false refl (sym (ap is_inner same) ∙ e)
@@ -58,6 +47,11 @@ told_arrival _ e = clash false refl e
 
 told_given : (n : NoteValue) → may_follow_gone n ≡ true → (c count : ℕ) → n ≡ note.given c count → 1 ≤ count
 told_given n e c count same = clash false refl (sym (ap may_follow_gone same) ∙ e)
+
+told_inside : (n : NoteValue) → may_follow_gone n ≡ true → is_from_outside n ≡ false
+told_inside (note.closed c code reason) e = refl
+told_inside (note.unserved c order why) e = refl
+told_inside _ e = clash false refl e
 
 told_stays : (n : NoteValue) → may_follow_gone n ≡ true → (c : ℕ) → n ≡ note.gone c Finished → ⊥
 told_stays n e c same = clash false refl (sym (ap may_follow_gone same) ∙ e)
@@ -80,10 +74,6 @@ inner_unaccepted ns c e = ap (has_number c) (gathers_none is_inner accepted_by n
     none : (n : NoteValue) → is_inner n ≡ true → accepted_by n ≡ []
     none (note.accepted d) h = clash false refl h
     none _ h = refl
-
-pub any_there : (p : NoteValue → Bool) (xs ys : List NoteValue) (n : NoteValue) → p n ≡ true → list_any p (xs ++ n ∷ ys) ≡ true
-any_there p [] ys n e = ap (λ (z : Bool). z || list_any p ys) e
-any_there p (x ∷ xs) ys n e = ap (λ (z : Bool). p x || z) (any_there p xs ys n e) ∙ or-true (p x)
 
 pub all_front : (p : NoteValue → Bool) (xs ys : List NoteValue) → list_all p (xs ++ ys) ≡ true → list_all p xs ≡ true
 all_front p [] ys e = refl
@@ -144,16 +134,21 @@ module _ {S : Type 0} (r : run.Server S) (f : ConfigValue) where
     given = inner_given n inner;
     gone = λ c own e. clash (is_gone_in c ns) (here c own).1 e;
     finished = λ c e. absurd (inner_stays n inner c e);
+    prompt = λ e. clash (is_from_outside n) (inner_inside n inner) e;
+    closed = λ c code reason e. absurd (inner_untold n inner c code reason e);
   }
 
-  -- a note that may name one which is gone
-  pub sound_told : (ns : List NoteValue) (n : NoteValue) → may_follow_gone n ≡ true → ((c : ℕ) → conn_of n ≡ Some c → is_accepted c ns ≡ true) → Sound r f ns n
-  sound_told ns n told here = record {
+  -- a note that may name one which is gone: of an end it tells what is still to be told
+  pub sound_told : (ns : List NoteValue) (n : NoteValue) → may_follow_gone n ≡ true → ((c : ℕ) → conn_of n ≡ Some c → is_accepted c ns ≡ true)
+      → ((c code : ℕ) (reason : List ℕ) → n ≡ note.closed c code reason → (((world r ns).line c).left_open ≡ Some (code, reason)) × (closes c ns ≡ [])) → Sound r f ns n
+  sound_told ns n told here end = record {
     busy = λ e. clash (is_arrival n) (told_arrival n told) e;
     named = λ c own new. clash (is_accepted c ns) new (here c own);
     given = told_given n told;
     gone = λ c own e. told;
     finished = λ c e. absurd (told_stays n told c e);
+    prompt = λ e. clash (is_from_outside n) (told_inside n told) e;
+    closed = end;
   }
 
   pub sound_finished : (ns : List NoteValue) (c : ℕ) → is_accepted c ns ≡ true → is_gone_in c ns ≡ false → is_ending (phase r ns c) ≡ true → taken c ns ≡ length (all_spelled (kept r ns c)) → Sound r f ns (note.gone c Finished)
@@ -163,14 +158,42 @@ module _ {S : Type 0} (r : run.Server S) (f : ConfigValue) where
     given = λ d count e. absurd (cc);
     gone = λ d own e. let g : c ≡ d = cc in clash (is_gone_in d ns) (ap (λ (z : ℕ). is_gone_in z ns) (sym g) ∙ here) e;
     finished = λ d e. let g : c ≡ d = cc in subst (λ (z : ℕ). (is_ending (phase r ns z) ≡ true) × (taken z ns ≡ length (all_spelled (kept r ns z)))) g (ending, all);
+    prompt = λ e. clash false refl e;
+    closed = λ d code reason e. absurd (cc);
   }
 
-  -- a connection comes, which was not accepted before
-  pub sound_arrival : (ns : List NoteValue) (n : NoteValue) → is_arrival n ≡ true → is_busy n ≡ nat_eq (entries r ns) f.max_conns → ((c : ℕ) → conn_of n ≡ Some c → is_gone_in c ns ≡ false) → Sound r f ns n
-  sound_arrival ns n comes busy new = record {
+  -- octets came of a connection that is there, and nothing is left to be told
+  pub sound_given : (ns : List NoteValue) (c count : ℕ) → 1 ≤ count → is_accepted c ns ≡ true → is_gone_in c ns ≡ false → NoneDue r ns → Sound r f ns (note.given c count)
+  sound_given ns c count some was here none = record {
+    busy = λ e. clash false refl e;
+    named = λ d own new. let e : c ≡ d = cc in clash (is_accepted d ns) new (ap (λ (z : ℕ). is_accepted z ns) (sym e) ∙ was);
+    given = λ d many e. let g : count ≡ many = cc in subst (λ (z : ℕ). 1 ≤ z) g some;
+    gone = λ d own e. let g : c ≡ d = cc in clash (is_gone_in d ns) (ap (λ (z : ℕ). is_gone_in z ns) (sym g) ∙ here) e;
+    finished = λ d e. absurd (cc);
+    prompt = λ e. none;
+    closed = λ d code reason e. absurd (cc);
+  }
+
+  -- time went by, and nothing is left to be told
+  pub sound_tick : (ns : List NoteValue) → NoneDue r ns → Sound r f ns note.tick
+  sound_tick ns none = record {
+    busy = λ e. clash false refl e;
+    named = λ d own new. absurd (let z : None ≡ Some d = own in cc);
+    given = λ d many e. absurd (cc);
+    gone = λ d own e. absurd (let z : None ≡ Some d = own in cc);
+    finished = λ d e. absurd (cc);
+    prompt = λ e. none;
+    closed = λ d code reason e. absurd (cc);
+  }
+
+  -- a connection comes, which was not accepted before, and nothing is left to be told
+  pub sound_arrival : (ns : List NoteValue) (n : NoteValue) → is_arrival n ≡ true → is_busy n ≡ nat_eq (entries r ns) f.max_conns → ((c : ℕ) → conn_of n ≡ Some c → is_gone_in c ns ≡ false) → NoneDue r ns → Sound r f ns n
+  sound_arrival ns n comes busy new none = record {
     busy = λ e. busy;
     named = λ c own e. comes;
     given = λ c count e. clash false refl (sym (ap is_arrival e) ∙ comes);
     gone = λ c own e. clash (is_gone_in c ns) (new c own) e;
     finished = λ c e. clash false refl (sym (ap is_arrival e) ∙ comes);
+    prompt = λ e. none;
+    closed = λ c code reason e. clash false refl (sym (ap is_arrival e) ∙ comes);
   }

@@ -1,27 +1,7 @@
 -- What is ready was read, step by step.
-use Rattle.std.proofs.Common.{◌≡◌, ℕ, List, [], ◌∷◌, Option, Some, None, Bool, true, false, cond, refl, sym, ap, ◌∙◌}
-use Rattle.std.specs.List.{list_any}
-use Rattle.ws_kinds.specs.declared.note.Phase.{Phase}
-use Rattle.ws_kinds.specs.declared.note.Phase.TheVariants.{Head, Open, Leaving, Ending, Gone}
+use Rattle.run_kept.proofs.Below.{◌≡◌, ℕ, List, [], ◌∷◌, Option, Some, None, Bool, true, false, cond, refl, sym, ap, ◌∙◌, list_any, Phase, Head, Open, Leaving, Ending, Gone, NoteValue, NetState, Same, is_of, is_acceptance, has_number, accepted_by, is_accepted, moved, is_reading, HubState, Server, Entry, has_entry, entry_at, is_present, phase_at, none_of, Progress, progress_at, progress_by, progress_after, progress_after_all, unless_gone, Advances, by_cases, clash, phase_of_away, present_is_not_gone, unaccepted, rest_unaccepted, none_moves, AreRead}
 use Rattle.ws_kinds.specs.NoteValue as note
-use Rattle.ws_kinds.specs.NoteValue.{NoteValue}
-use Rattle.link_trait.specs.NetState.{NetState}
-use Rattle.link_trait.specs.Net.{Same}
-use Rattle.run_meaning.specs.Notes.{is_of, is_acceptance}
-use Rattle.run_meaning.specs.Counts.{has_number, accepted_by, is_accepted}
-use Rattle.run_meaning.specs.Lines.{moved}
-use Rattle.run_meaning.specs.Settled.{is_reading}
 use Rattle.hub_lines.specs.State as hub
-use Rattle.hub_lines.specs.State.{HubState, Server, Entry, has_entry, entry_at, is_present, phase_at}
-use Rattle.hub_lines.proofs.EntryLemmas.{none_of}
-use Rattle.hub_notes.specs.Progress.{Progress, progress_at, progress_by, progress_after, progress_after_all}
-use Rattle.run_meaning.specs.Orders.{unless_gone}
-use Rattle.hub_notes.specs.Calls.{Advances}
-use Rattle.hub_notes.proofs.BoolLemmas.{by_cases, clash}
-use Rattle.hub_notes.proofs.TieLemmas.{phase_of_away, present_is_not_gone, unaccepted}
-use Rattle.run_meaning.proofs.StepLemmas.{none_moves}
-use Rattle.run_laws.proofs.ProgressLemmas.{rest_unaccepted}
-use Rattle.run_kept.specs.Read.{AreRead}
 
 -- ---- phases
 
@@ -34,7 +14,7 @@ reading_shown (Some Ending) = refl
 reading_shown (Some Gone) = refl
 
 -- an entry's phase, by its progress
-reads_by : (h : HubState) (c : ℕ) → is_reading (phase_at h c) ≡ is_reading (progress_at h c).phase
+pub reads_by : (h : HubState) (c : ℕ) → is_reading (phase_at h c) ≡ is_reading (progress_at h c).phase
 reads_by h c = by_cases (has_entry h.entries c)
     (λ has. ap (λ (z : Bool). is_reading (cond z (Some (entry_at h c).phase) None)) has ∙ sym (reading_shown (Some (entry_at h c).phase)))
     (λ none. ap (λ (z : Bool). is_reading (cond z (Some (entry_at h c).phase) None)) none ∙ ap (λ (z : Entry). is_reading (unless_gone (Some z.phase))) (sym (none_of h.entries c none)))

@@ -1,30 +1,7 @@
 -- What a server keeps over a call of the hub that makes a note of one connection, and then notes of what was sent.
-use Rattle.std.proofs.Common.{◌≡◌, ◌≢◌, ℕ, List, [], ◌∷◌, ◌++◌, Option, Some, Bool, true, false, ◌&&◌, ◌||◌, nat_eq, refl, sym, ap, ◌∙◌, subst, append_assoc}
-use Rattle.std.specs.List.{list_all, list_any}
-use Rattle.ws_kinds.specs.declared.note.Phase.TheVariants.{Head}
-use Rattle.ws_kinds.specs.ConfigValue.{ConfigValue}
+use Rattle.run_kept.proofs.Below.{◌≡◌, ◌≢◌, ℕ, List, [], ◌∷◌, ◌++◌, Option, Some, Bool, true, false, ◌&&◌, ◌||◌, nat_eq, refl, sym, ap, ◌∙◌, subst, append_assoc, list_all, list_any, Head, ConfigValue, NoteValue, RouteTable, is_of, is_event, is_unserved, is_acceptance, gather, accepted_by, Line, moved, route_after, param_after, line_after, noted, noted_all, phase, world, heard, last_frame, Follows, is_outgoing, world_frames, lines_after, own_line, outgoing_within, within_no_event, outgoing_no_order, Server, has_entry, Advances, IsTable, table_of, clash, or_left, or_right, is_other, itself, outgoing_unaccepted, unaccepted, Agrees, same_or_not, line_more, IntakeView, HearsAt, RestsAt, IsRouted, SameButReader, Kept}
 use Rattle.ws_kinds.specs.NoteValue as note
-use Rattle.ws_kinds.specs.NoteValue.{NoteValue}
-use Rattle.route_table.specs.Table.{RouteTable}
-use Rattle.run_meaning.specs.Notes.{is_of, is_event, is_unserved, is_acceptance}
-use Rattle.run_meaning.specs.Counts.{gather, accepted_by}
 use Rattle.run_meaning.specs.Server as run
-use Rattle.run_meaning.specs.Lines.{Line, moved, route_after, param_after, line_after, noted, noted_all, phase, world}
-use Rattle.run_meaning.specs.Life.{heard, last_frame}
-use Rattle.run_meaning.specs.Network.{Follows}
-use Rattle.run_meaning.specs.Performs.{is_outgoing}
-use Rattle.run_meaning.proofs.Leaving.{world_frames}
-use Rattle.run_meaning.proofs.LineLemmas.{lines_after, own_line}
-use Rattle.run_meaning.proofs.NoteLemmas.{outgoing_within, within_no_event, outgoing_no_order}
-use Rattle.hub_lines.specs.State.{Server, has_entry}
-use Rattle.hub_notes.specs.Calls.{Advances}
-use Rattle.hub_notes.specs.Table.{IsTable, table_of}
-use Rattle.hub_notes.proofs.BoolLemmas.{clash, or_left, or_right}
-use Rattle.hub_notes.proofs.TieLemmas.{outgoing_unaccepted, unaccepted}
-use Rattle.run_laws.specs.Agrees.{Agrees}
-use Rattle.run_laws.proofs.Adding.{is_other, itself, same_or_not}
-use Rattle.run_laws.proofs.WorldLemmas.{line_more}
-use Rattle.run_kept.specs.Kept.{IntakeView, HearsAt, RestsAt, IsRouted, SameButReader, Kept}
 use Rattle.run_kept.proofs.EntryLemmas.{entry_before}
 use Rattle.run_kept.proofs.IntakeLemmas.{Seen, is_beside, outgoing_beside, other_beside, heard_beside, taken_lines}
 use Rattle.run_kept.proofs.PassingLemmas.{taken_as, seen_beside, kept_plain, same_numbers}

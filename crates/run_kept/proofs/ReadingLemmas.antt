@@ -1,61 +1,15 @@
 -- What a server keeps where a connection is read and what came of it is told.
-use Rattle.std.proofs.Common.{◌≡◌, ◌≢◌, inr, ℕ, List, [], ◌∷◌, ◌++◌, Option, Some, None, Bool, true, false, cond, take, map, refl, sym, ap, ◌∙◌, subst, append-nil}
-use Rattle.std.specs.List.{list_all}
-use Rattle.ws_kinds.specs.declared.note.Left.{Left}
-use Rattle.ws_kinds.specs.declared.note.Left.TheVariants.{PeerEnd, LinkFailed}
-use Rattle.ws_kinds.specs.declared.note.Phase.{Phase}
-use Rattle.ws_kinds.specs.declared.note.Phase.TheVariants.{Head, Open, Leaving, Ending, Gone}
-use Rattle.ws_kinds.specs.ConfigValue.{ConfigValue}
+use Rattle.run_kept.proofs.Below.{◌≡◌, ◌≢◌, inr, ℕ, List, [], ◌∷◌, ◌++◌, Option, Some, None, Bool, true, false, cond, take, map, refl, sym, ap, ◌∙◌, subst, append-nil, list_all, Left, PeerEnd, LinkFailed, Phase, Head, Open, Leaving, Ending, Gone, ConfigValue, NoteValue, Pong, Event, Item, reply, whole, close_item, NetState, Reads, NetRead, RouteTable, Judged, refuse, undecided, refusal_text, gather, World, moved, is_open, noted, noted_all, phase, world, Heard, heard, last_frame, is_frame_heard, Follows, marks_by, is_reading, taken_of, Server, server, has_entry, phase_at, nothing, only, served, unless_gone, Advances, Proceeds, Appends, FailsAfter, clash, IsTable, table_of, Makes, has_frames, Agrees, is_closed, wordless_line, agrees_net, agrees_phase, agrees_quiet, agrees_note, items_head, items_ping, items_close, items_failed, agrees_open, agrees_told_phase, ReaderView, IsFed, IsRead, is_over, HearsFrames, HearsAll, HearsFront, to_come, note_of_event, head_fed, head_refused, frames_fed, frames_read, frames_end, come_none, hears_more, hears_same, heard_unheard, heard_then_head, heard_then_event, FollowsBut, is_unread, same_or_not, but_none, none_but, proceeds_follows, octets_read, end_read, fault_read, later_read, IntakeView, HearsAt, RestsAt, IsRouted, SameButReader, Kept}
 use Rattle.ws_kinds.specs.NoteValue as note
-use Rattle.ws_kinds.specs.NoteValue.{NoteValue}
-use Rattle.wire_meaning.specs.declared.frame.Opcode.TheVariants.{Pong}
 use Rattle.wire_meaning.specs.Event as wire
-use Rattle.wire_meaning.specs.Event.{Event}
-use Rattle.wire_meaning.specs.Answer.{Item, reply, whole, close_item}
-use Rattle.link_trait.specs.NetState.{NetState}
-use Rattle.link_trait.specs.Net.{Reads}
-use Rattle.link_trait.specs.declared.net.NetRead.{NetRead}
 use Rattle.link_trait.specs.declared.net.NetRead.TheVariants as read
-use Rattle.route_table.specs.Table.{RouteTable}
-use Rattle.upgrade_head.specs.Judged.{Judged, refuse, more as undecided}
-use Rattle.upgrade_head.specs.Texts.{refusal_text}
-use Rattle.run_meaning.specs.Counts.{gather}
 use Rattle.run_meaning.specs.Server as run
-use Rattle.run_meaning.specs.Lines.{World, moved, is_open, noted, noted_all, phase, world}
-use Rattle.run_meaning.specs.Life.{Heard, heard, last_frame, is_frame_heard}
 use Rattle.run_meaning.specs.Life as life
-use Rattle.run_meaning.specs.Network.{Follows, marks_by}
-use Rattle.run_meaning.specs.Settled.{is_reading}
-use Rattle.hub_lines.specs.Told.{taken_of}
-use Rattle.hub_lines.specs.State.{Server, server, has_entry, phase_at}
-use Rattle.hub_lines.specs.Calls.{nothing, only, served}
-use Rattle.run_meaning.specs.Orders.{unless_gone}
-use Rattle.hub_notes.specs.Calls.{Advances, Proceeds, Appends}
-use Rattle.hub_notes.specs.NetAfter.{FailsAfter}
-use Rattle.hub_notes.proofs.BoolLemmas.{clash}
-use Rattle.hub_notes.specs.Table.{IsTable, table_of}
-use Rattle.hub_notes.specs.Answers.{Makes, has_frames}
-use Rattle.run_laws.specs.Agrees.{Agrees}
-use Rattle.run_laws.specs.Tests.{is_closed}
-use Rattle.run_laws.proofs.ProgressLemmas.{wordless_line}
-use Rattle.run_laws.proofs.AgreeLemmas.{agrees_net}
-use Rattle.run_laws.proofs.CarryLemmas.{agrees_phase}
-use Rattle.run_laws.proofs.HubLemmas.{agrees_quiet, agrees_note, items_head, items_ping, items_close, items_failed, agrees_open, agrees_told_phase}
-use Rattle.run_laws.specs.Readers.{ReaderView, IsFed, IsRead, is_over}
-use Rattle.run_laws.specs.Hears.{HearsFrames, HearsAll, HearsFront, to_come}
-use Rattle.run_laws.specs.Unheard.{note_of_event}
-use Rattle.run_laws.proofs.HearLemmas.{head_fed, head_refused, frames_fed, frames_read, frames_end, come_none, hears_more, hears_same}
-use Rattle.run_laws.proofs.Lives.{heard_unheard, heard_then_head, heard_then_event}
-use Rattle.run_laws.specs.Steps.{FollowsBut}
-use Rattle.run_laws.specs.Unread.{is_unread}
-use Rattle.run_laws.proofs.Adding.{same_or_not, but_none, none_but}
-use Rattle.run_laws.proofs.Proceeding.{proceeds_follows}
-use Rattle.run_laws.proofs.Reading.{octets_read, end_read, fault_read, later_read}
-use Rattle.run_kept.specs.Kept.{IntakeView, HearsAt, RestsAt, IsRouted, SameButReader, Kept}
 use Rattle.run_kept.proofs.IntakeLemmas.{hears_on, rests_judged}
 use Rattle.run_kept.proofs.PassingLemmas.{none_reads, same_told}
 use Rattle.run_kept.proofs.ReadLemmas.{reading_shown}
 use Rattle.run_kept.proofs.ReadingCalls.{IsOwn, own_note, entries_stay, seen_own, seen_sent, kept_call}
+use Rattle.run_kept.proofs.GivingLemmas.{not_read as some_other}
 
 -- ---- phases
 
@@ -149,9 +103,6 @@ rests_at table (Some Gone) os rd e none = tt {0}
 -- all stays but what the reader of one connection has
 same_intakes : (c : ℕ) (intakes : ℕ → IntakeView) → SameButReader c intakes intakes
 same_intakes c intakes = record { route = refl; param = refl; others = λ d ne. refl }
-
-some_other : (c d : ℕ) → d ≢ c → Some c ≢ Some d
-some_other c d ne e = ne (let z : c ≡ d = cc in sym z)
 
 -- ---- reads
 

@@ -1,19 +1,6 @@
 -- What is kept of connections of which no frames are read.
-use Rattle.std.proofs.Common.{◌≡◌, ℕ, List, Option, Some, None, Bool, true, false, cond, sym, ap, ◌∙◌, subst}
-use Rattle.ws_kinds.specs.declared.note.Phase.{Phase}
-use Rattle.ws_kinds.specs.declared.note.Phase.TheVariants.{Head, Open, Leaving, Ending, Gone}
-use Rattle.ws_kinds.specs.ConfigValue.{ConfigValue}
-use Rattle.ws_kinds.specs.NoteValue.{NoteValue}
-use Rattle.route_table.specs.Table.{RouteTable}
-use Rattle.run_laws.specs.Readers.{ReaderView}
+use Rattle.run_kept.proofs.Below.{◌≡◌, ℕ, List, Option, Some, None, Bool, true, false, cond, sym, ap, ◌∙◌, subst, Phase, Head, Open, Leaving, Ending, Gone, ConfigValue, NoteValue, RouteTable, ReaderView, phase, world, Heard, heard, last_frame, HubState, Server, has_entry, entry_at, phase_at, unless_gone, by_cases, agrees_phase, IntakeView, HearsAt, RestsAt, IsRouted, Kept}
 use Rattle.run_meaning.specs.Server as run
-use Rattle.run_meaning.specs.Lines.{phase, world}
-use Rattle.run_meaning.specs.Life.{Heard, heard, last_frame}
-use Rattle.hub_lines.specs.State.{HubState, Server, has_entry, entry_at, phase_at}
-use Rattle.run_meaning.specs.Orders.{unless_gone}
-use Rattle.hub_notes.proofs.BoolLemmas.{by_cases}
-use Rattle.run_laws.proofs.CarryLemmas.{agrees_phase}
-use Rattle.run_kept.specs.Kept.{IntakeView, HearsAt, RestsAt, IsRouted, Kept}
 
 -- ---- no entry
 

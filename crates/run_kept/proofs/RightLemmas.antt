@@ -1,40 +1,9 @@
 -- What is kept after a turn is what the relation of a run asks for.
-use Rattle.std.proofs.Common.{◌≡◌, ◌≢◌, ◌<◌, ◌^◌, ◌-◌, inl, inr, ◌⊎◌, ℕ, List, [], ◌∷◌, ◌++◌, Option, Some, None, Bool, true, false, cond, not, ◌&&◌, length, refl, sym, ap, ◌∙◌, subst}
-use Rattle.ws_kinds.specs.declared.note.Phase.{Phase}
-use Rattle.ws_kinds.specs.declared.note.Phase.TheVariants.{Head, Open, Leaving, Ending, Gone}
-use Rattle.ws_kinds.specs.ConfigValue.{ConfigValue}
-use Rattle.ws_kinds.specs.NoteValue.{NoteValue}
-use Rattle.route_table.specs.Table.{RouteTable}
-use Rattle.run_meaning.specs.Counts.{closes, is_accepted}
+use Rattle.run_kept.proofs.Below.{◌≡◌, ◌≢◌, ◌<◌, ◌^◌, ◌-◌, inl, inr, ◌⊎◌, ℕ, List, [], ◌∷◌, ◌++◌, Option, Some, None, Bool, true, false, cond, not, ◌&&◌, length, refl, sym, ap, ◌∙◌, subst, Phase, Head, Open, Leaving, Ending, Gone, ConfigValue, NoteValue, RouteTable, closes, is_accepted, is_gone_phase, phase, plain, world, heard, last_frame, Lived, Carries, Carried, all_spelled, LeftAtEnd, is_reading, is_ending, Sound, Right, Server, has_entry, entry_at, is_present, phase_at, ring_at, held_at, held_octets, Settled, Ties, settled_held, RingsWait, unless_gone, due_at, by_cases, clash, away_by_phase, there_by_phase, away_by_gone, rests_of, agrees_due, agrees_told, agrees_untold, agrees_hub_phase, ReaderView, HearsAll, agrees_carried, agrees_phase, accepted_known, unaccepted_phase, head_waits, frames_end, lived_of_all, lived_of_front, AreThere, backlog_at, AreRead, IntakeView, HearsAt, RestsAt, Kept}
 use Rattle.run_meaning.specs.Server as run
-use Rattle.run_meaning.specs.Lines.{is_gone_phase, phase, plain, world}
-use Rattle.run_meaning.specs.Life.{heard, last_frame, Lived, Carries, Carried}
 use Rattle.run_meaning.specs.Kept as meaning
-use Rattle.wire_meaning.specs.Answer.{all_spelled}
 use Rattle.run_meaning.specs.Settled as meant
-use Rattle.run_meaning.specs.Settled.{LeftAtEnd, is_reading, is_ending}
-use Rattle.run_meaning.specs.Right.{Sound, Right}
-use Rattle.hub_lines.specs.State.{Server, has_entry, entry_at, is_gone, is_present, phase_at, ring_at}
-use Rattle.hub_lines.specs.Lines.{held_at, held_octets}
-use Rattle.hub_lines.specs.Calls.{Settled, Ties}
-use Rattle.hub_lines.proofs.CallLemmas.{settled_held}
-use Rattle.hub_notes.specs.Fronts.{RingsWait}
-use Rattle.run_meaning.specs.Orders.{unless_gone}
-use Rattle.hub_notes.specs.Progress.{due_at}
-use Rattle.hub_notes.proofs.BoolLemmas.{by_cases, clash}
-use Rattle.hub_notes.proofs.TieLemmas.{away_by_phase}
-use Rattle.run_laws.proofs.RestLemmas.{there_by_phase, away_by_gone}
-use Rattle.run_laws.proofs.AgreeLemmas.{rests_of, agrees_due, agrees_told, agrees_untold}
-use Rattle.run_laws.proofs.HubLemmas.{agrees_hub_phase}
-use Rattle.run_laws.specs.Readers.{ReaderView}
-use Rattle.run_laws.specs.Hears.{HearsAll}
-use Rattle.run_laws.proofs.CarryLemmas.{agrees_carried, agrees_phase}
-use Rattle.run_laws.proofs.WorldLemmas.{accepted_known, unaccepted_phase}
-use Rattle.run_laws.proofs.HearLemmas.{head_waits, frames_end}
-use Rattle.run_laws.proofs.Lives.{lived_of_all, lived_of_front}
-use Rattle.run_kept.specs.Ends.{AreThere, backlog_at}
-use Rattle.run_kept.specs.Read.{AreRead}
-use Rattle.run_kept.specs.Kept.{IntakeView, HearsAt, RestsAt, Kept}
+use Rattle.hub_lines.specs.State.{is_gone}
 use Rattle.run_kept.proofs.PassingLemmas.{none_reads}
 use Rattle.run_kept.proofs.ReadLemmas.{reading_shown}
 

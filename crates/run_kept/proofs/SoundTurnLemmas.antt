@@ -1,46 +1,8 @@
 -- The notes of a turn's end are sound.
-use Rattle.std.proofs.Common.{◌≡◌, ◌≢◌, ◌<◌, ◌+◌, ◌-◌, ◌^◌, ℕ, List, [], ◌∷◌, ◌++◌, Option, Some, None, is_some, Bool, true, false, cond, nat_eq, ◌&&◌, ◌||◌, length, refl, sym, ap, ◌∙◌, subst, append-nil, add-zero, arith}
-use Rattle.std.proofs.lemmas.Bool.Decides.{nat_tests}
-use Rattle.std.specs.List.{list_all}
+use Rattle.run_kept.proofs.Below.{◌≡◌, ◌≢◌, ◌<◌, ◌+◌, ◌-◌, ◌^◌, ℕ, List, [], ◌∷◌, ◌++◌, Option, Some, None, is_some, Bool, true, false, cond, nat_eq, ◌&&◌, ◌||◌, length, refl, sym, ap, ◌∙◌, subst, append-nil, add-zero, arith, nat_tests, list_all, Left, Finished, Phase, Head, Open, Leaving, Ending, Gone, ConfigValue, NoteValue, Item, all_spelled, is_event, is_unserved, gather, total, has_number, accepted_by, dropped_by, taken_by, is_accepted, taken, drops, closes, Line, world, phase, plain, kept_of, kept, is_ending, is_last_note, Sound, early, late, place_of, accepted-append, drops-append, taken-append, taken_of, is_dropped, Server, is_present, is_outgoing, unless_gone, Progress, progress_at, progress_after_all, may_come, may_all_come, items_at, Advances, by_cases, clash, and_left, none_stays, phase_of_away, Agrees, is_wordless, ends_of, told_is, gathers_none, dropped_named, kept_spelled, lines_after, wordless_lines, all_progress, line_more, finishes, EndsTurn, all_follow, all_then, none_follow, Shows, AreSound, is_inner, is_at_end}
 use Rattle.std.proofs.lemmas.Bool.{or_right}
-use Rattle.ws_kinds.specs.declared.note.Left.{Left}
-use Rattle.ws_kinds.specs.declared.note.Left.TheVariants.{Finished}
-use Rattle.ws_kinds.specs.declared.note.Phase.{Phase}
-use Rattle.ws_kinds.specs.declared.note.Phase.TheVariants.{Head, Open, Leaving, Ending, Gone}
-use Rattle.ws_kinds.specs.ConfigValue.{ConfigValue}
 use Rattle.ws_kinds.specs.NoteValue as note
-use Rattle.ws_kinds.specs.NoteValue.{NoteValue}
-use Rattle.wire_meaning.specs.Answer.{Item, all_spelled}
-use Rattle.run_meaning.specs.Notes.{is_event, is_unserved}
-use Rattle.run_meaning.specs.Counts.{gather, total, has_number, accepted_by, dropped_by, taken_by, is_accepted, taken, drops, closes}
 use Rattle.run_meaning.specs.Server as run
-use Rattle.run_meaning.specs.Lines.{Line, world, phase, plain}
-use Rattle.run_meaning.specs.Kept.{kept_of, kept}
-use Rattle.run_meaning.specs.Settled.{is_ending, is_last_note}
-use Rattle.run_meaning.specs.Right.{Sound}
-use Rattle.run_meaning.proofs.Parts.{early, late, place_of, accepted-append, drops-append, taken-append}
-use Rattle.hub_lines.specs.Told.{taken_of, is_dropped}
-use Rattle.hub_lines.specs.State.{Server, is_present}
-use Rattle.run_meaning.specs.Performs.{is_outgoing}
-use Rattle.run_meaning.specs.Orders.{unless_gone}
-use Rattle.hub_notes.specs.Progress.{Progress, progress_at, progress_after_all, may_come, may_all_come}
-use Rattle.hub_notes.specs.Fronts.{items_at}
-use Rattle.hub_notes.specs.Calls.{Advances}
-use Rattle.hub_notes.proofs.BoolLemmas.{by_cases, clash, and_left}
-use Rattle.hub_notes.proofs.TieLemmas.{none_stays, phase_of_away}
-use Rattle.run_laws.specs.Agrees.{Agrees}
-use Rattle.run_laws.specs.Tests.{is_wordless}
-use Rattle.run_laws.proofs.AgreeLemmas.{ends_of, told_is}
-use Rattle.run_laws.proofs.Adding.{gathers_none}
-use Rattle.run_laws.proofs.CarryLemmas.{dropped_named, kept_spelled}
-use Rattle.run_meaning.proofs.LineLemmas.{lines_after}
-use Rattle.run_laws.proofs.ProgressLemmas.{wordless_lines, all_progress}
-use Rattle.run_laws.proofs.WorldLemmas.{line_more}
-use Rattle.hub_notes.specs.Turns.{finishes, EndsTurn}
-use Rattle.run_meaning.proofs.NoteLemmas.{all_follow, all_then, none_follow}
-use Rattle.run_kept.specs.Known.{Shows}
-use Rattle.run_kept.specs.Sounds.{AreSound}
-use Rattle.run_kept.specs.Tests.{is_inner, is_at_end}
 use Rattle.run_kept.proofs.KnownLemmas.{some_is, shows_sound, shows_call}
 use Rattle.run_kept.proofs.PlaceLemmas.{all_front, all_back, own_of, comes_there, sound_more, sound_inner, sound_finished, outgoing_inner, inner_unaccepted}
 use Rattle.run_kept.proofs.CallLemmas.{here_there, inner_there}

@@ -1,27 +1,9 @@
 -- What was heard at the end of each turn, where one more turn ends.
-use Rattle.std.proofs.Common.{◌≡◌, ◌≢◌, ◌≤◌, ◌+◌, ℕ, List, [], ◌∷◌, ◌++◌, Bool, true, false, ◌||◌, length, take, refl, sym, ap, ◌∙◌, subst, arith, append-nil, append_assoc}
-use Rattle.std.proofs.lemmas.List.{take_all, append_cancel_left, append_cancel_right}
-use Rattle.std.proofs.lemmas.Grind.{flat_map-append}
-use Rattle.std.specs.List.{list_any, flat_map}
-use Rattle.ws_kinds.specs.ConfigValue.{ConfigValue}
+use Rattle.run_kept.proofs.Below.{◌≡◌, ◌≢◌, ◌≤◌, ◌+◌, ℕ, List, [], ◌∷◌, ◌++◌, Bool, true, false, ◌||◌, length, take, refl, sym, ap, ◌∙◌, subst, arith, append-nil, append_assoc, take_all, append_cancel_left, append_cancel_right, flat_map-append, list_any, flat_map, ConfigValue, NoteValue, NetState, is_rest, NetEvent, RouteTable, is_turn, gather, given, is_accepted, Follows, Mark, marks_by, marks_of, arrival, tick, turn, Lived, LivedThroughout, Right, place_of, gather-append, given-append, list_any-append, accepted_more, throughout_other, throughout_turn, throughout_octets, clash, or_left, or_right}
 use Rattle.ws_kinds.specs.NoteValue as note
-use Rattle.ws_kinds.specs.NoteValue.{NoteValue}
-use Rattle.link_trait.specs.NetState.{NetState}
-use Rattle.link_trait.specs.Net.{is_rest}
-use Rattle.link_trait.specs.declared.net.NetEvent.{NetEvent}
 use Rattle.link_trait.specs.declared.net.NetEvent.TheVariants as event
-use Rattle.route_table.specs.Table.{RouteTable}
-use Rattle.run_meaning.specs.Notes.{is_turn}
-use Rattle.run_meaning.specs.Counts.{gather, given, is_accepted}
 use Rattle.run_meaning.specs.Server as run
-use Rattle.run_meaning.specs.Network.{Follows, Mark, marks_by, marks_of}
-use Rattle.run_meaning.specs.Network.Mark.{arrival, tick, turn}
-use Rattle.run_meaning.specs.Life.{Lived, LivedThroughout}
-use Rattle.run_meaning.specs.Right.{Right}
-use Rattle.run_meaning.proofs.Parts.{place_of, gather-append, given-append, list_any-append}
 use Rattle.run_meaning.proofs.Parts.Placed.{early, late}
-use Rattle.run_meaning.proofs.Throughout.{accepted_more, throughout_other, throughout_turn, throughout_octets}
-use Rattle.hub_notes.proofs.BoolLemmas.{clash, or_left, or_right}
 
 -- ---- marks
 

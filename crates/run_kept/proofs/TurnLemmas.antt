@@ -1,30 +1,9 @@
 -- What holds after a turn, by what held before it.
-use Rattle.std.proofs.Common.{◌≡◌, ◌<◌, ◌^◌, ◌-◌, ℕ, List, [], ◌∷◌, ◌++◌, Some, None, true, false, length, refl, sym, ◌∙◌, subst}
-use Rattle.std.specs.List.{list_any}
-use Rattle.ws_kinds.specs.ConfigValue.{ConfigValue}
+use Rattle.run_kept.proofs.Below.{◌≡◌, ◌<◌, ◌^◌, ◌-◌, ℕ, List, [], ◌∷◌, ◌++◌, Some, None, true, false, length, refl, sym, ◌∙◌, subst, list_any, ConfigValue, NoteValue, NetState, Nexts, SameLinks, Tells, is_rest, NetEvent, RouteTable, LeftAtEnd, Server, server, Settled, Ties, nothing, is_acceptance, RingsWait, due_at, Appends, clash, outgoing_unaccepted, unaccepted_then, IsTable, table_of, EndsTurn, finishes, IntakeView, Kept, AreThere, backlog_at, AreRead}
 use Rattle.ws_kinds.specs.NoteValue as note
-use Rattle.ws_kinds.specs.NoteValue.{NoteValue}
-use Rattle.link_trait.specs.NetState.{NetState}
-use Rattle.link_trait.specs.Net.{Nexts, SameLinks, Tells, is_rest}
-use Rattle.link_trait.specs.declared.net.NetEvent.{NetEvent}
 use Rattle.link_trait.specs.declared.net.NetEvent.TheVariants as event
-use Rattle.route_table.specs.Table.{RouteTable}
 use Rattle.run_meaning.specs.Server as run
 use Rattle.run_meaning.specs.Settled as meant
-use Rattle.run_meaning.specs.Settled.{LeftAtEnd}
-use Rattle.hub_lines.specs.State.{Server, server}
-use Rattle.hub_lines.specs.Calls.{Settled, Ties, nothing}
-use Rattle.run_meaning.specs.Notes.{is_acceptance}
-use Rattle.hub_notes.specs.Fronts.{RingsWait}
-use Rattle.hub_notes.specs.Progress.{due_at}
-use Rattle.hub_notes.specs.Calls.{Appends}
-use Rattle.hub_notes.proofs.BoolLemmas.{clash}
-use Rattle.hub_notes.proofs.TieLemmas.{outgoing_unaccepted, unaccepted_then}
-use Rattle.hub_notes.specs.Table.{IsTable, table_of}
-use Rattle.hub_notes.specs.Turns.{EndsTurn, finishes}
-use Rattle.run_kept.specs.Kept.{IntakeView, Kept}
-use Rattle.run_kept.specs.Ends.{AreThere, backlog_at}
-use Rattle.run_kept.specs.Read.{AreRead}
 use Rattle.run_kept.proofs.TurningLemmas.{kept_turned}
 use Rattle.run_kept.proofs.EndLemmas.{left_at_end, there_same, there_after}
 use Rattle.run_kept.proofs.ReadLemmas.{read_same, read_call}

@@ -1,49 +1,8 @@
 -- What a server keeps while it starts, while connections are turned away, and while time goes by and turns end.
-use Rattle.std.proofs.Common.{◌≡◌, ◌<◌, ◌^◌, ◌-◌, ℕ, List, [], ◌∷◌, ◌++◌, Some, None, Bool, true, false, cond, ◌&&◌, length, refl, sym, ap, ◌∙◌, subst}
-use Rattle.std.specs.List.{list_all}
-use Rattle.ws_kinds.specs.declared.conn.Conn.{Conn}
-use Rattle.ws_kinds.specs.ConfigValue.{ConfigValue}
+use Rattle.run_kept.proofs.Below.{◌≡◌, ◌<◌, ◌^◌, ◌-◌, ℕ, List, [], ◌∷◌, ◌++◌, Some, None, Bool, true, false, cond, ◌&&◌, length, refl, sym, ap, ◌∙◌, subst, list_all, Conn, ConfigValue, NoteValue, NetState, Nexts, Shuts, SameTraffic, is_rest, NetEvent, RouteTable, gather, has_number, accepted_by, is_accepted, world, phase, heard, last_frame, Follows, Mark, marks_by, marks_of, arrival, tick, turn, list_all-append, ordered_none, HubState, Server, Entry, server, has_entry, taken_of, nothing, AreNoted, is_outgoing, Appends, clash, IsTable, table_of, Arrives, Makes, Busy, Memory, EndsTurn, finishes, Agrees, is_quiet, agrees_net, agrees_aside, told_is, agrees_quiet, agrees_last, agrees_first, FollowsBut, is_unread, follows_none, none_but, gathers_none, call_marked, next_but, next_unmarked, shut_follows, aside_but, busy_follows, no_room_follows, all_follow, proceeds_follows, IntakeView, HearsAt, RestsAt, Kept, is_passing}
 use Rattle.ws_kinds.specs.NoteValue as note
-use Rattle.ws_kinds.specs.NoteValue.{NoteValue}
-use Rattle.link_trait.specs.NetState.{NetState}
-use Rattle.link_trait.specs.Net.{Nexts, Shuts, SameTraffic, is_rest}
-use Rattle.link_trait.specs.declared.net.NetEvent.{NetEvent}
 use Rattle.link_trait.specs.declared.net.NetEvent.TheVariants as event
-use Rattle.route_table.specs.Table.{RouteTable}
-use Rattle.run_meaning.specs.Counts.{gather, has_number, accepted_by, is_accepted}
 use Rattle.run_meaning.specs.Server as run
-use Rattle.run_meaning.specs.Lines.{world, phase}
-use Rattle.run_meaning.specs.Life.{heard, last_frame}
-use Rattle.run_meaning.specs.Network.{Follows, Mark, marks_by, marks_of}
-use Rattle.run_meaning.specs.Network.Mark.{arrival, tick, turn}
-use Rattle.run_meaning.proofs.Parts.{list_all-append}
-use Rattle.run_meaning.proofs.Ordering.{ordered_none}
-use Rattle.hub_lines.specs.State.{HubState, Server, Entry, server, has_entry}
-use Rattle.hub_lines.specs.Told.{taken_of}
-use Rattle.hub_lines.specs.Calls.{nothing}
-use Rattle.ws_kinds.specs.Watch.{AreNoted}
-use Rattle.run_meaning.specs.Performs.{is_outgoing}
-use Rattle.hub_notes.specs.Calls.{Appends}
-use Rattle.hub_notes.proofs.BoolLemmas.{clash}
-use Rattle.hub_notes.specs.Table.{IsTable, table_of}
-use Rattle.hub_notes.specs.Answers.{Arrives, Makes}
-use Rattle.hub_notes.specs.declared.arrival.Arrival.TheVariants.{Busy, Memory}
-use Rattle.hub_notes.specs.Turns.{EndsTurn, finishes}
-use Rattle.run_laws.specs.Agrees.{Agrees}
-use Rattle.run_laws.specs.Tests.{is_quiet}
-use Rattle.run_laws.proofs.AgreeLemmas.{agrees_net, agrees_aside, told_is}
-use Rattle.run_laws.proofs.HubLemmas.{agrees_quiet, agrees_last}
-use Rattle.run_laws.proofs.CountLemmas.{agrees_first}
-use Rattle.run_laws.specs.Steps.{FollowsBut}
-use Rattle.run_laws.specs.Unread.{is_unread}
-use Rattle.run_laws.proofs.Adding.{follows_none, none_but, gathers_none}
-use Rattle.run_laws.proofs.Calling.{call_marked}
-use Rattle.run_laws.proofs.Telling.{next_but, next_unmarked, shut_follows, aside_but}
-use Rattle.run_laws.proofs.Arriving.{busy_follows, no_room_follows}
-use Rattle.run_meaning.proofs.NoteLemmas.{all_follow}
-use Rattle.run_laws.proofs.Proceeding.{proceeds_follows}
-use Rattle.run_kept.specs.Kept.{IntakeView, HearsAt, RestsAt, Kept}
-use Rattle.run_kept.specs.Passing.{is_passing}
 use Rattle.run_kept.proofs.EntryLemmas.{entry_before}
 use Rattle.run_kept.proofs.PassingLemmas.{same_told, passing_accepts, kept_passing}
 

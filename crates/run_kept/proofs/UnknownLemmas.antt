@@ -1,40 +1,12 @@
 -- Of a connection that was not accepted, and that no note names but by its arrival, nothing is known.
-use Rattle.std.proofs.Common.{◌≡◌, ◌<◌, ◌+◌, ℕ, suc, zero, List, [], ◌∷◌, ◌++◌, Option, Some, None, Bool, true, false, cond, not, nat_eq, ◌&&◌, ◌||◌, length, take, slice_get, refl, sym, ap, ◌∙◌, subst, append-nil, append_assoc, arith}
-use Rattle.std.proofs.lemmas.Bool.Decides.{nat_tests}
-use Rattle.std.specs.List.{list_all}
-use Rattle.std.proofs.Math.Bool.{and-false}
-use Rattle.ws_kinds.specs.declared.note.Phase.{Phase}
-use Rattle.ws_kinds.specs.declared.note.Why.{Why}
-use Rattle.ws_kinds.specs.declared.note.Why.TheVariants.{Absent, Memory}
-use Rattle.ws_kinds.specs.ConfigValue.{ConfigValue}
+use Rattle.run_kept.proofs.Below.{◌≡◌, ◌<◌, ◌+◌, ℕ, suc, zero, List, [], ◌∷◌, ◌++◌, Option, Some, None, Bool, true, false, cond, not, nat_eq, ◌&&◌, ◌||◌, length, take, slice_get, refl, sym, ap, ◌∙◌, subst, append-nil, append_assoc, arith, nat_tests, list_all, and-false, Phase, Why, Absent, ConfigValue, NoteValue, EventValue, OrderValue, send, subscribe, unsubscribe, publish, close, is_of, is_event, is_gone, window, has_number, accepted_by, only_if, dropped_by, drops, is_accepted, is_gone_in, Line, World, unknown, line_after, after_own, noted, step, first_world, world, obey, obeyed, put, data_frame, has_topic, with_topic, without_topic, closed_by_server, is_refused, orders_of, event_of, Ordered, Justified, event_at, at_order, asked, named, standings, unless_gone, why_at, why_send, by_reason, by_memory, by_gone, is_arrival, refused_more, step_plain, step_event, window_event, perform-line, named-none, by_cases, clash, and_left, and_right, own_line, other_line, rest_unaccepted, gathers_none, none_obeys, obeyed_keeps, is_at_most_arrival, not_own}
+use Rattle.ws_kinds.specs.declared.note.Why.TheVariants.{Memory}
 use Rattle.ws_kinds.specs.NoteValue as note
-use Rattle.ws_kinds.specs.NoteValue.{NoteValue}
 use Rattle.ws_kinds.specs.EventValue as event
-use Rattle.ws_kinds.specs.EventValue.{EventValue}
-use Rattle.ws_kinds.specs.OrderValue.{OrderValue, send, subscribe, unsubscribe, publish, close}
-use Rattle.run_meaning.specs.Notes.{is_of, is_event, is_gone, window}
-use Rattle.run_meaning.specs.Counts.{has_number, accepted_by, only_if, dropped_by, drops, is_accepted, is_gone_in}
 use Rattle.run_meaning.specs.Server as run
-use Rattle.run_meaning.specs.Lines.{Line, World, unknown, line_after, after_own, noted, step, answered, first_world, world, obey, obeyed, put, data_frame, has_topic, with_topic, without_topic, closed_by_server, is_refused, orders_of, event_of}
 use Rattle.run_meaning.specs.Lines as lines
-use Rattle.run_meaning.specs.Orders.{Ordered, Justified, event_at, at_order, asked, named, standings, unless_gone, why_at, why_send}
-use Rattle.run_meaning.specs.Orders.Justified.{by_reason, by_memory, by_gone}
-use Rattle.run_meaning.specs.Right.{is_arrival}
-use Rattle.run_meaning.proofs.Worlds.{refused_more, step_plain, step_event}
-use Rattle.run_meaning.proofs.Underway.{perform-line}
-use Rattle.run_meaning.proofs.Serving.{named-none}
-use Rattle.hub_notes.proofs.BoolLemmas.{by_cases, clash, and_left, and_right}
-use Rattle.run_meaning.proofs.LineLemmas.{own_line, other_line}
-use Rattle.run_laws.proofs.ProgressLemmas.{rest_unaccepted}
-use Rattle.run_laws.proofs.Adding.{gathers_none}
-use Rattle.run_laws.proofs.WorldLemmas.{none_obeys, obeyed_keeps}
-use Rattle.run_laws.specs.Unread.{is_at_most_arrival}
 
 -- ---- bits
-
-not_own : (b : Bool) → (not b || false) ≡ true → b ≡ false
-not_own true e = sym e
-not_own false e = refl
 
 arrives_where_own : (own arrives : Bool) → (not own || arrives) ≡ true → own ≡ true → arrives ≡ true
 arrives_where_own true arrives e h = e
@@ -97,9 +69,6 @@ window_not_gone c (n ∷ ns) e =
     one : (b : Bool) → is_gone c n ≡ false → is_gone_in c (window ns) ≡ false → is_gone_in c (cond b [] (n ∷ window ns)) ≡ false
     one true here later = refl
     one false here later = ap (λ (z : Bool). z || is_gone_in c (window ns)) here ∙ later
-
-window_event : (n : NoteValue) (ns : List NoteValue) (d i : ℕ) → is_event n ≡ true → is_refused (window (n ∷ ns)) d i ≡ false
-window_event n ns d i e = ap (λ (z : Bool). is_refused (cond z [] (n ∷ window ns)) d i) e
 
 -- the event of a note that names the connection at most by its arrival is that of another one
 event_is : {S : Type 0} (c : ℕ) (n : NoteValue) (w : World S) → is_event n ≡ true → is_at_most_arrival c n ≡ true → (e : EventValue) × (event_at n w ≡ Some e) × (nat_eq e.conn c ≡ false)

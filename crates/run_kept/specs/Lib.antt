@@ -7,3 +7,4 @@ pub mod Arrivals
 pub mod Known
 pub mod Sounds
 pub mod Tests
+pub mod All

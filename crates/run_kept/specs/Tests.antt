@@ -1,30 +1,26 @@
 -- Tests of notes.
-use Rattle.std.specs.Prelude.{ℕ, Bool, true, false, not, ◌&&◌, ◌||◌, nat_lt}
+use Rattle.std.specs.Prelude.{ℕ, Bool, true, false, not, ◌&&◌}
 use Rattle.ws_kinds.specs.declared.note.Left.TheVariants.{Finished}
 use Rattle.ws_kinds.specs.NoteValue as note
 use Rattle.ws_kinds.specs.NoteValue.{NoteValue}
-use Rattle.run_meaning.specs.Notes.{is_left, is_of}
-use Rattle.run_meaning.specs.Right.{may_follow_gone}
+use Rattle.run_meaning.specs.Notes.{is_left, is_of, is_unserved}
 
--- The note is of a connection that has a phase and is not gone, if it is of one; of octets that were read it counts at least
--- one. It says neither that a connection is finished nor what may be said of one that is gone.
+-- The note is of a connection that has a phase and is not gone, if it is of one. It says neither that something came from
+-- outside, nor that a connection is finished, nor what may be said of one that is gone.
 abbrev pub is_inner : NoteValue → Bool
 is_inner (note.accepted conn) = false
 is_inner (note.busy conn) = false
 is_inner (note.no_room conn) = false
-is_inner (note.given conn count) = nat_lt 0 count
+is_inner (note.given conn count) = false
+is_inner note.tick = false
 is_inner (note.unserved conn order why) = false
 is_inner (note.closed conn code reason) = false
 is_inner (note.gone conn left) = not (is_left Finished left)
 is_inner _ = true
 
--- the note is such a one, or may name a connection that is gone
-abbrev pub is_fit : NoteValue → Bool
-is_fit this = is_inner this || may_follow_gone this
-
--- the note may name a connection that is gone, and names this one
-abbrev pub may_follow : ℕ → NoteValue → Bool
-may_follow conn this = may_follow_gone this && is_of conn this
+-- the note says that an order of this connection is not served
+abbrev pub is_refusal_of : ℕ → NoteValue → Bool
+is_refusal_of conn this = is_unserved this && is_of conn this
 
 -- the note says that a connection is gone
 abbrev pub is_departure : NoteValue → Bool

@@ -1,14 +1,15 @@
 //! That each note is sound at its place, as the steps of a server make notes. Each function says laws, and does nothing.
 
-ghost use Rattle.std.specs.Prelude.{◌≡◌, ◌<◌, ◌-◌, ◌^◌, ℕ, List, [], ◌∷◌, ◌++◌, Some, Bool, true, length};
+ghost use Rattle.std.specs.Prelude.{◌≡◌, ◌<◌, ◌≤◌, ◌-◌, ◌^◌, ℕ, List, [], ◌∷◌, ◌++◌, Some, None, Bool, true, length};
 ghost use Rattle.std.specs.List.{list_all};
 ghost use Rattle.ws_kinds.specs.ConfigValue.{ConfigValue};
-ghost use Rattle.ws_kinds.specs.NoteValue.{NoteValue, closed, turn};
+ghost use Rattle.ws_kinds.specs.NoteValue.{NoteValue, closed, given, tick, turn};
 ghost use Rattle.ws_kinds.specs.OrderValue.{OrderValue};
 ghost use Rattle.run_meaning.specs.Counts.{accepted_by, gather, is_accepted, taken};
 ghost use Rattle.run_meaning.specs.Server.{Server as Meaning};
 ghost use Rattle.run_meaning.specs.Lines.{plain, world};
-ghost use Rattle.hub_lines.specs.State.{Server};
+ghost use Rattle.run_meaning.specs.Settled.{is_reading};
+ghost use Rattle.hub_lines.specs.State.{Server, phase_at};
 ghost use Rattle.hub_notes.specs.Progress.{due_at, progress_at};
 ghost use Rattle.hub_notes.specs.Calls.{Advances, Proceeds};
 ghost use Rattle.hub_notes.specs.Table.{IsTable, table_of};
@@ -32,14 +33,23 @@ pub fn shown<H: Handler>()
     ensures world { (meaning : Meaning H.State) (config : ConfigValue) (notes : List NoteValue) → AreSound meaning config notes → Known (world meaning notes) notes }
 {}
 
-/// The notes of a call of the hub are sound where none is of an arrival, of an order that is not served, of the handler's being
-/// told of an end, or of a connection that is finished, and where each count of octets that were read is at least one.
+/// The notes of a call of the hub are sound where none says that something came from outside, that an order is not served, that the
+/// handler was told of an end, or that a connection is finished.
 pub fn calls<H: Handler>()
     ensures call { (meaning : Meaning H.State) (config : ConfigValue) (made notes : List NoteValue) (old new : Server) → Shows notes old → Advances made old new →
         list_all is_inner made ≡ true → AreSound meaning config notes → AreSound meaning config (notes ++ made) × Shows (notes ++ made) new }
     ensures proceeds { (meaning : Meaning H.State) (config : ConfigValue) (first last notes : List NoteValue) (old new : Server) (steps : Proceeds first last old new) → Shows notes old →
         list_all is_inner first ≡ true → list_all is_inner last ≡ true → AreSound meaning config notes →
         AreSound meaning config (notes ++ (first ++ (steps.sending ++ last))) × Shows (notes ++ (first ++ (steps.sending ++ last))) new }
+{}
+
+/// Octets came of a connection that is read, or time went by: the note is sound where no Closed event is due.
+pub fn from_outside<H: Handler>()
+    ensures octets { (meaning : Meaning H.State) (config : ConfigValue) (notes : List NoteValue) (conn count : ℕ) (s : Server) → Agrees (world meaning notes) notes s →
+        ((other : ℕ) → due_at s.hub other ≡ None) → is_reading (phase_at s.hub conn) ≡ true → 1 ≤ count → AreSound meaning config notes →
+        AreSound meaning config (notes ++ given conn count ∷ []) }
+    ensures time { (meaning : Meaning H.State) (config : ConfigValue) (notes : List NoteValue) (s : Server) → Agrees (world meaning notes) notes s → ((conn : ℕ) → due_at s.hub conn ≡ None) →
+        AreSound meaning config notes → AreSound meaning config (notes ++ tick ∷ []) }
 {}
 
 /// The handler is told of an end that is due, while the hub moves nobody.
@@ -49,11 +59,11 @@ pub fn closed_event<H: Handler>()
         AreSound meaning config (notes ++ closed conn code reason ∷ []) × Shows (notes ++ closed conn code reason ∷ []) new }
 {}
 
-/// The note of a connection that comes, and was not accepted before, is sound where the hub has a table and no connection was
-/// accepted twice, which stays so.
+/// The note of a connection that comes, and was not accepted before, is sound where no Closed event is due, the hub has a table and
+/// no connection was accepted twice, which stays so.
 pub fn arrivals<H: Handler>()
     ensures { (meaning : Meaning H.State) (config : ConfigValue) (arrival : Arrival) (notes : List NoteValue) (conn : ℕ) (old new : Server) → Agrees (world meaning notes) notes old →
-        IsTable (table_of old.hub) → AreUnlike (gather accepted_by notes) → old.hub.config ≡ config → old.hub.named < conn → Arrives arrival conn old new → AreSound meaning config notes →
+        ((other : ℕ) → due_at old.hub other ≡ None) → IsTable (table_of old.hub) → AreUnlike (gather accepted_by notes) → old.hub.config ≡ config → old.hub.named < conn → Arrives arrival conn old new → AreSound meaning config notes →
         AreSound meaning config (notes ++ arrival_note arrival conn ∷ []) × Shows (notes ++ arrival_note arrival conn ∷ []) new ×
         AreUnlike (gather accepted_by (notes ++ arrival_note arrival conn ∷ [])) }
 {}

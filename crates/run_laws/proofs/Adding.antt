@@ -1,31 +1,6 @@
 -- What notes add for a connection, beside what a net adds for it.
-use Rattle.std.proofs.Common.{◌≡◌, ◌≢◌, ◌+◌, ℕ, List, [], ◌∷◌, ◌++◌, Bool, true, false, ◌||◌, length, nat_eq, refl, sym, ap, ◌∙◌, append-nil, append_assoc, arith}
-use Rattle.std.proofs.lemmas.Bool.Decides.{nat_tests}
-use Rattle.std.specs.List.{flat_map, list_all}
-use Rattle.ws_kinds.specs.declared.note.Left.TheVariants.{PeerEnd, LinkFailed}
+use Rattle.run_laws.proofs.Below.{◌≡◌, ◌≢◌, ◌+◌, ℕ, List, [], ◌∷◌, ◌++◌, Bool, true, false, ◌||◌, length, nat_eq, refl, sym, ap, ◌∙◌, append-nil, append_assoc, arith, nat_tests, flat_map, list_all, PeerEnd, LinkFailed, NoteValue, NetState, SameTraffic, NetEvent, gather, writes, taken, given, is_gone_by_in, is_accepted, Follows, Mark, marks_by, marks_of, gather-append, writes-append, taken-append, given-append, gone_by-append, accepted-append, by_cases, clash, and_left, and_right, itself, is_same, is_other, FollowsAt, FollowsBut, or_false}
 use Rattle.ws_kinds.specs.NoteValue as note
-use Rattle.ws_kinds.specs.NoteValue.{NoteValue}
-use Rattle.link_trait.specs.NetState.{NetState}
-use Rattle.link_trait.specs.Net.{SameTraffic}
-use Rattle.link_trait.specs.declared.net.NetEvent.{NetEvent}
-use Rattle.run_meaning.specs.Counts.{gather, writes, taken, given, is_gone_by_in, is_accepted}
-use Rattle.run_meaning.specs.Network.{Follows, Mark, marks_by, marks_of}
-use Rattle.run_meaning.proofs.Parts.{gather-append, writes-append, taken-append, given-append, gone_by-append, accepted-append}
-use Rattle.hub_notes.proofs.BoolLemmas.{by_cases, clash, and_left, and_right}
-use Rattle.run_laws.specs.Steps.{FollowsAt, FollowsBut}
-
-pub or_false : (b : Bool) → (b || false) ≡ b
-or_false true = refl
-or_false false = refl
-
-pub is_same : (c d : ℕ) → nat_eq c d ≡ true → c ≡ d
-is_same c d e = grind (arith, nat_tests)
-
-pub is_other : (c d : ℕ) → c ≢ d → nat_eq c d ≡ false
-is_other c d ne = by_cases (nat_eq c d) (λ e. absurd (ne (is_same c d e))) (λ e. e)
-
-pub itself : (c : ℕ) → nat_eq c c ≡ true
-itself c = grind (arith, nat_tests)
 
 pub same_or_not : {A : Type 0} (c d : ℕ) → (d ≡ c → A) → (d ≢ c → A) → A
 same_or_not c d own other = by_cases (nat_eq d c) (λ e. own (is_same d c e)) (λ e. other (λ same. clash (nat_eq d c) e (ap (λ (k : ℕ). nat_eq k c) same ∙ itself c)))

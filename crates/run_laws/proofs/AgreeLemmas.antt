@@ -1,34 +1,9 @@
 -- A hub beside what its notes say, after each kind of step.
-use Rattle.std.proofs.Common.{◌≡◌, ◌≢◌, ℕ, List, [], ◌∷◌, ◌++◌, Option, Some, None, Bool, true, false, cond, nat_eq, refl, sym, ap, ◌∙◌, subst, append-nil, ⊎_elim, arith}
-use Rattle.std.proofs.lemmas.Bool.{cases_eq}
-use Rattle.std.proofs.lemmas.Bool.Decides.{nat_tests}
-use Rattle.std.specs.List.{list_any}
-use Rattle.run_laws.proofs.Adding.{itself, other_accepted}
-use Rattle.ws_kinds.specs.declared.note.Phase.{Phase}
-use Rattle.ws_kinds.specs.declared.note.Phase.TheVariants.{Head, Open, Leaving, Ending, Gone}
+use Rattle.run_laws.proofs.Below.{◌≡◌, ◌≢◌, ℕ, List, [], ◌∷◌, ◌++◌, Option, Some, None, Bool, true, false, cond, nat_eq, refl, sym, ap, ◌∙◌, subst, append-nil, ⊎_elim, arith, cases_eq, nat_tests, list_any, itself, by_cases, clash, Phase, Head, Open, Leaving, Ending, Gone, NoteValue, NetState, Item, is_of, is_acceptance, closes, closed_by, is_accepted, Line, World, is_open, moved, leaves_open, cause_of, after_own, line_after, noted, noted_all, unknown, closes-append, lines_after, noted_line, own_line, other_line, taken_of, is_dropped, drops, HubState, Server, nothing, IsNewTo, Starts, is_dropped_note, AreNoted, Progress, due_at, progress_at, progress_by, progress_after, progress_after_all, unless_gone, items_at, Advances, Appends, unaccepted, AgreesAt, Agrees, IsToldOnce, line_progress, untold, is_early, is_closed, is_wordless}
+use Rattle.run_laws.proofs.Adding.{other_accepted}
 use Rattle.ws_kinds.specs.NoteValue as note
-use Rattle.ws_kinds.specs.NoteValue.{NoteValue}
-use Rattle.link_trait.specs.NetState.{NetState}
-use Rattle.wire_meaning.specs.Answer.{Item}
-use Rattle.run_meaning.specs.Notes.{is_of, is_acceptance}
-use Rattle.run_meaning.specs.Counts.{closes, closed_by, is_accepted}
 use Rattle.run_meaning.specs.Server as run
-use Rattle.run_meaning.specs.Lines.{Line, World, is_open, moved, leaves_open, cause_of, after_own, line_after, noted, noted_all, unknown}
-use Rattle.run_meaning.proofs.Parts.{closes-append}
-use Rattle.run_meaning.proofs.LineLemmas.{lines_after, noted_line, own_line, other_line}
-use Rattle.hub_lines.specs.Told.{taken_of, is_dropped, drops}
-use Rattle.hub_lines.specs.State.{HubState, Server}
-use Rattle.hub_lines.specs.Calls.{nothing, IsNewTo, Starts}
-use Rattle.hub_lines.proofs.KeptLemmas.{is_dropped_note}
-use Rattle.ws_kinds.specs.Watch.{AreNoted}
-use Rattle.hub_notes.specs.Progress.{Progress, due_at, progress_at, progress_by, progress_after, progress_after_all}
-use Rattle.run_meaning.specs.Orders.{unless_gone}
-use Rattle.hub_notes.specs.Fronts.{items_at}
-use Rattle.hub_notes.specs.Calls.{Advances, Appends}
-use Rattle.hub_notes.proofs.BoolLemmas.{by_cases, clash}
-use Rattle.hub_notes.proofs.TieLemmas.{unaccepted}
-use Rattle.run_laws.specs.Agrees.{AgreesAt, Agrees, IsToldOnce, line_progress, untold, is_early}
-use Rattle.run_laws.specs.Tests.{is_closed, is_wordless, is_aside}
+use Rattle.run_laws.specs.Tests.{is_aside}
 use Rattle.run_laws.proofs.ProgressLemmas.{Ends, told_none, all_progress, all_none, wordless_line, unclosed, closes_same, progress_is}
 use Rattle.run_laws.proofs.RestLemmas.{Rests, DropsNothing, rests_then, rests_as}
 

@@ -1,19 +1,7 @@
 -- A connection that comes, and the note of it.
-use Rattle.std.proofs.Common.{◌≡◌, ◌≢◌, ℕ, List, [], ◌∷◌, ◌++◌, Bool, true, false, ◌||◌, length, refl, sym, ap, ◌∙◌, subst}
-use Rattle.std.specs.List.{flat_map}
-use Rattle.ws_kinds.specs.declared.note.Left.TheVariants.{PeerEnd, LinkFailed}
+use Rattle.run_laws.proofs.Below.{◌≡◌, ◌≢◌, ℕ, List, [], ◌∷◌, ◌++◌, Bool, true, false, ◌||◌, length, refl, sym, ap, ◌∙◌, subst, flat_map, PeerEnd, LinkFailed, NoteValue, NetState, HasNoTraffic, NetEvent, writes, taken, given, is_gone_by_in, is_accepted, Follows, marks_of, arrival, accepted-append, NetAfter, FailsAfter, FollowsAt, FollowsBut, or_false}
 use Rattle.ws_kinds.specs.NoteValue as note
-use Rattle.ws_kinds.specs.NoteValue.{NoteValue}
-use Rattle.link_trait.specs.NetState.{NetState}
-use Rattle.link_trait.specs.Net.{HasNoTraffic}
-use Rattle.link_trait.specs.declared.net.NetEvent.{NetEvent}
-use Rattle.run_meaning.specs.Counts.{writes, taken, given, is_gone_by_in, is_accepted}
-use Rattle.run_meaning.specs.Network.{Follows, marks_of}
-use Rattle.run_meaning.specs.Network.Mark.{arrival}
-use Rattle.run_meaning.proofs.Parts.{accepted-append}
-use Rattle.hub_notes.specs.NetAfter.{NetAfter, FailsAfter}
-use Rattle.run_laws.specs.Steps.{FollowsAt, FollowsBut}
-use Rattle.run_laws.proofs.Adding.{or_false, other_accepted, same_or_not, at_adds, marks_come, none_but}
+use Rattle.run_laws.proofs.Adding.{other_accepted, same_or_not, at_adds, marks_come, none_but}
 use Rattle.run_laws.proofs.Calling.{call_adds, call_marked}
 
 -- notes that say nothing of a connection follow a net that told nothing of it

@@ -1,14 +1,7 @@
 -- Notes that a call of a hub makes.
-use Rattle.std.proofs.Common.{◌≡◌, ◌+◌, ℕ, List, [], ◌∷◌, ◌++◌, Bool, true, false, ◌||◌, length, refl, sym, ap, ◌∙◌, arith}
-use Rattle.ws_kinds.specs.declared.note.Left.TheVariants.{PeerEnd, LinkFailed}
+use Rattle.run_laws.proofs.Below.{◌≡◌, ◌+◌, ℕ, List, [], ◌∷◌, ◌++◌, Bool, true, false, ◌||◌, length, refl, sym, ap, ◌∙◌, arith, PeerEnd, LinkFailed, NoteValue, NetState, gather, given, is_gone_by_in, is_accepted, accepted_by, has_number, Mark, marks_by, NetAfter, FailsAfter, FollowsBut, or_false}
 use Rattle.ws_kinds.specs.NoteValue as note
-use Rattle.ws_kinds.specs.NoteValue.{NoteValue}
-use Rattle.link_trait.specs.NetState.{NetState}
-use Rattle.run_meaning.specs.Counts.{gather, given, is_gone_by_in, is_accepted, accepted_by, has_number}
-use Rattle.run_meaning.specs.Network.{Mark, marks_by}
-use Rattle.hub_notes.specs.NetAfter.{NetAfter, FailsAfter}
-use Rattle.run_laws.specs.Steps.{FollowsBut}
-use Rattle.run_laws.proofs.Adding.{Adds, or_false, but_adds}
+use Rattle.run_laws.proofs.Adding.{Adds, but_adds}
 
 -- the call reads nothing, so the notes say neither that octets were read nor that a peer ended
 pub after_adds : (c : ℕ) (made : List NoteValue) (a b : NetState) → a.tells ≡ true → given c made ≡ 0 → is_gone_by_in c PeerEnd made ≡ false

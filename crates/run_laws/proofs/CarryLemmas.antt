@@ -1,27 +1,12 @@
 -- What a hub holds after a turn, beside the items of its notes; and its phases beside those of the notes.
-use Rattle.std.proofs.Common.{◌≡◌, ◌<◌, ◌+◌, ◌^◌, ◌-◌, ℕ, List, [], ◌∷◌, ◌++◌, Some, None, Bool, true, false, cond, nat_eq, ◌&&◌, ◌||◌, length, refl, sym, ap, ◌∙◌, arith}
+use Rattle.run_laws.proofs.Below.{◌≡◌, ◌<◌, ◌+◌, ◌^◌, ◌-◌, ℕ, List, [], ◌∷◌, ◌++◌, Some, None, Bool, true, false, cond, nat_eq, ◌&&◌, ◌||◌, length, refl, sym, ap, ◌∙◌, arith, NoteValue, Item, spelled, all_spelled, only_if, has_number, dropped_by, is_accepted, World, world, is_gone_phase, phase, plain, unless_gone, without, Carries, Carried, has_number-append, taken_of, is_dropped, drops, kept, HubState, Server, Entry, has_entry, entry_at, phase_at, numbered_at, pending_at, ring_at, Settled, none_of, progress_at, by_cases, Agrees}
 use Rattle.run_laws.proofs.Adding.{same_number}
 use Rattle.ws_kinds.specs.NoteValue as note
-use Rattle.ws_kinds.specs.NoteValue.{NoteValue}
-use Rattle.wire_meaning.specs.Answer.{Item, spelled, all_spelled}
-use Rattle.run_meaning.specs.Counts.{gather, only_if, has_number, accepted_by, dropped_by, is_accepted, closes}
 use Rattle.run_meaning.specs.Counts as counts
 use Rattle.run_meaning.specs.Server as run
-use Rattle.run_meaning.specs.Lines.{World, world, is_gone_phase, phase, plain}
-use Rattle.run_meaning.specs.Orders.{unless_gone}
 use Rattle.run_meaning.specs.Kept as meant
-use Rattle.run_meaning.specs.Kept.{without, kept_of}
-use Rattle.run_meaning.specs.Life.{Carries, Carried}
-use Rattle.run_meaning.proofs.Kept.{has_number-append}
-use Rattle.hub_lines.specs.Told.{taken_of, is_dropped, drops}
-use Rattle.hub_lines.specs.Items.{kept}
-use Rattle.hub_lines.specs.State.{HubState, Server, Entry, has_entry, entry_at, phase_at, numbered_at, pending_at, ring_at}
-use Rattle.hub_lines.specs.Calls.{Settled}
-use Rattle.hub_lines.proofs.EntryLemmas.{none_of}
 use Rattle.hub_lines.proofs.CallLemmas as calls
-use Rattle.hub_notes.specs.Progress.{progress_at}
-use Rattle.hub_notes.proofs.BoolLemmas.{by_cases, or_false}
-use Rattle.run_laws.specs.Agrees.{Agrees}
+use Rattle.ws_kinds.proofs.Facts.{or_false}
 use Rattle.run_laws.proofs.WorldLemmas.{accepted_known}
 use Rattle.run_laws.proofs.RestLemmas.{there_by_phase}
 use Rattle.run_laws.proofs.AgreeLemmas.{rests_of}

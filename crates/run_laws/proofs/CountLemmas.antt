@@ -1,25 +1,8 @@
 -- How many connections count, by the hub and by its notes; and a hub before its first note.
-use Rattle.std.proofs.Common.{◌≡◌, ◌≢◌, ◌<◌, ℕ, suc, List, [], ◌∷◌, ◌++◌, Option, Some, None, is_some, Bool, true, false, cond, not, nat_eq, ◌&&◌, ◌||◌, length, refl, sym, ap, ◌∙◌, ⊎_elim, arith}
+use Rattle.run_laws.proofs.Below.{◌≡◌, ◌≢◌, ◌<◌, ℕ, suc, List, [], ◌∷◌, ◌++◌, Option, Some, None, is_some, Bool, true, false, cond, not, nat_eq, ◌&&◌, ◌||◌, length, refl, sym, ap, ◌∙◌, ⊎_elim, arith, cases_eq, nat_tests, Phase, Head, Open, Leaving, Ending, Gone, NoteValue, gather, number_of, has_number, accepted_by, is_accepted, closes, world, first_world, is_gone_phase, is_entry, entries, has_number-append, world_conns, HubState, Server, Entry, PartingValue, is_present, has_entry, entry_at, Progress, progress_at, topics_of, topics_at, due_of, due_at, unless_gone, by_cases, clash, or_left, or_right, AreAbove, AreRising, is_kept, Agrees, untold, AreUnlike}
 use Rattle.std.proofs.lemmas.Bool as bools
-use Rattle.std.proofs.lemmas.Bool.{cases_eq}
-use Rattle.std.proofs.lemmas.Bool.Decides.{nat_tests}
-use Rattle.ws_kinds.specs.declared.note.Phase.{Phase}
-use Rattle.ws_kinds.specs.declared.note.Phase.TheVariants.{Head, Open, Leaving, Ending, Gone}
-use Rattle.ws_kinds.specs.NoteValue.{NoteValue}
-use Rattle.run_meaning.specs.Counts.{gather, number_of, has_number, accepted_by, is_accepted, closes}
 use Rattle.run_meaning.specs.Server as run
-use Rattle.run_meaning.specs.Lines.{world, first_world, is_gone_phase}
-use Rattle.run_meaning.specs.Right.{is_entry, entries}
-use Rattle.run_meaning.proofs.Kept.{has_number-append}
-use Rattle.run_meaning.proofs.Growing.{world_conns}
 use Rattle.hub_lines.specs.State as hub
-use Rattle.hub_lines.specs.State.{HubState, Server, Entry, PartingValue, is_present, has_entry, entry_at}
-use Rattle.hub_notes.specs.Progress.{Progress, progress_at, topics_of, topics_at, due_of, due_at}
-use Rattle.run_meaning.specs.Orders.{unless_gone}
-use Rattle.hub_notes.proofs.BoolLemmas.{by_cases, clash, or_left, or_right}
-use Rattle.hub_notes.specs.Table.{AreAbove, AreRising, is_kept}
-use Rattle.run_laws.specs.Agrees.{Agrees, untold}
-use Rattle.run_laws.specs.Numbers.{AreUnlike}
 use Rattle.run_laws.proofs.ProgressLemmas.{progress_is}
 use Rattle.run_laws.proofs.WorldLemmas.{accepted_known, unaccepted_phase, unaccepted_left}
 

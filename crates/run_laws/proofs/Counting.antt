@@ -1,20 +1,9 @@
 -- A connection that no note names but by its arrival is not counted.
-use Rattle.std.proofs.Common.{◌≡◌, ℕ, List, [], ◌∷◌, ◌++◌, Some, Bool, true, false, not, ◌||◌, ◌&&◌, nat_eq, refl, sym, ap, ◌∙◌, append_assoc, arith, subst}
-use Rattle.std.proofs.lemmas.Bool.Decides.{nat_tests}
-use Rattle.std.specs.List.{list_all}
-use Rattle.std.proofs.lemmas.Bool.{and_from}
-use Rattle.ws_kinds.specs.declared.note.Left.{Left}
+use Rattle.run_laws.proofs.Below.{◌≡◌, ℕ, List, [], ◌∷◌, ◌++◌, Some, Bool, true, false, not, ◌||◌, ◌&&◌, nat_eq, refl, sym, ap, ◌∙◌, append_assoc, arith, subst, nat_tests, list_all, and_from, Left, NoteValue, conn_of, is_of, is_left, is_gone_by, took_by, taken_by, given_by, writes, taken, given, total, only_if, is_gone_by_in, is_accepted, is_arrival, accepted-append, and_left, and_right, or_left, is_at_most_arrival}
 use Rattle.ws_kinds.specs.NoteValue as note
-use Rattle.ws_kinds.specs.NoteValue.{NoteValue}
-use Rattle.run_meaning.specs.Notes.{conn_of, is_of, is_left, is_gone_by}
-use Rattle.run_meaning.specs.Counts.{took_by, taken_by, given_by, writes, taken, given, total, only_if, is_gone_by_in, is_accepted}
-use Rattle.run_meaning.specs.Right.{is_arrival}
-use Rattle.run_meaning.proofs.Parts.{accepted-append}
-use Rattle.hub_notes.proofs.BoolLemmas.{and_left, and_right, or_left}
-use Rattle.run_laws.specs.Unread.{is_at_most_arrival}
 use Rattle.run_laws.proofs.Adding.{gathers_none}
 
-other : (b : Bool) → (not b || false) ≡ true → b ≡ false
+pub other : (b : Bool) → (not b || false) ≡ true → b ≡ false
 other false e = refl
 other true e = sym e
 

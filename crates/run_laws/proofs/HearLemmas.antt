@@ -1,24 +1,7 @@
 -- What was heard of a connection, as octets come, as its head is judged and as events are read.
-use Rattle.std.proofs.Common.{◌≡◌, ◌≤◌, ℕ, List, [], ◌∷◌, ◌++◌, Option, Some, None, Bool, true, false, cond, length, drop, map, refl, sym, ap, ◌∙◌, append-nil, append_assoc, arith, length-append}
-use Rattle.std.proofs.lemmas.List.{drop-append-le, map-append}
+use Rattle.run_laws.proofs.Below.{◌≡◌, ◌≤◌, ℕ, zero, suc, List, [], ◌∷◌, ◌++◌, Option, Some, None, Bool, true, false, cond, length, drop, map, refl, sym, ap, ◌∙◌, append-nil, append_assoc, arith, length-append, drop-append-le, map-append, Event, reading, RouteTable, Verdict, more, admit, refuse, Judged, judged_stays, Reader, State, AtFrameStart, InDataFrame, Ended, Step, coming, ahead, raw_of, has_ended, is_end, events_of, is_last, HasStepped, Heard, opened, refused, read, is_frame_heard, frames_in, first_frames, to_hear, life_by, IsLife, first_behind, ReaderView, reader_view, IsFed, IsRead, is_all, HearsHead, HearsFrames, HearsAll, HearsFront, to_come}
 use Rattle.std.proofs.lemmas.Bool.{or_right}
-use Rattle.wire_meaning.specs.Event.{Event}
-use Rattle.wire_meaning.specs.Reading.{reading}
-use Rattle.route_table.specs.Table.{RouteTable}
-use Rattle.upgrade_head.specs.Judged.{Verdict, more, admit, refuse, Judged}
-use Rattle.upgrade_head.proofs.JudgedLemmas.{judged_stays}
-use Rattle.frame_reader.specs.declared.reader.Reader.{Reader}
-use Rattle.frame_reader.specs.declared.reader.State.{State}
-use Rattle.frame_reader.specs.declared.reader.State.TheVariants.{AtFrameStart, InDataFrame, Ended}
-use Rattle.frame_reader.specs.declared.step.Step.{Step}
 use Rattle.frame_reader.specs.declared.step.Step.TheVariants as step
-use Rattle.frame_reader.specs.State.{coming}
-use Rattle.frame_reader.specs.Reader.{ahead, raw_of, has_ended, is_end}
-use Rattle.frame_reader.specs.Step.{events_of, is_last, HasStepped}
-use Rattle.run_meaning.specs.Life.{Heard, opened, refused, read, is_frame_heard, frames_in, first_frames, to_hear, life_by}
-use Rattle.run_meaning.proofs.Leaving.{first_behind}
-use Rattle.run_laws.specs.Readers.{ReaderView, reader_view, IsFed, IsRead, is_all}
-use Rattle.run_laws.specs.Hears.{HearsHead, HearsFrames, HearsAll, HearsFront, to_come}
 
 -- ---- the reader
 
@@ -75,11 +58,38 @@ come_then (Some count) xs ys = frames_then xs
         one true e = e
         one false e = ap (λ (hs : List Heard). z ∷ hs) e
 
-module _ (table : RouteTable) (max : ℕ) where
-  -- no octets say nothing
-  pub all_none : HearsAll table max None [] []
-  all_none = record { life = []; is = record { verdict = more; judged = refl; says = refl }; all = refl }
+-- ---- what is heard in any case
 
+-- of octets that say something, something is to be heard
+says_nothing : (max : ℕ) (octets : List ℕ) (v : Verdict) (last : Option ℕ) → to_hear last (life_by max octets v) ≡ [] → life_by max octets v ≡ []
+says_nothing max octets more last e = refl
+says_nothing max octets (refuse status) None e = e
+says_nothing max octets (refuse status) (Some zero) e = absurd (let z : refused status ∷ [] ≡ [] = e in cc)
+says_nothing max octets (refuse status) (Some (suc n)) e = absurd (let z : refused status ∷ [] ≡ [] = e in cc)
+says_nothing max octets (admit end route param accept protocol) None e = e
+says_nothing max octets (admit end route param accept protocol) (Some zero) e = absurd (let z : opened route param ∷ first_frames zero (map read (reading max (drop end octets))) ≡ [] = e in cc)
+says_nothing max octets (admit end route param accept protocol) (Some (suc n)) e = absurd (let z : opened route param ∷ first_frames (suc n) (map read (reading max (drop end octets))) ≡ [] = e in cc)
+
+pub silent : (table : RouteTable) (max : ℕ) (octets : List ℕ) (life : List Heard) (last : Option ℕ) → IsLife table max octets life → to_hear last life ≡ [] → life ≡ []
+silent table max octets life last is none = is.says ∙ says_nothing max octets is.verdict last (ap (to_hear last) (sym is.says) ∙ none)
+
+-- what is still to be heard of frames is no admission
+module _ (route : ℕ) (param : List ℕ) where
+  frames_only : (ys : List Heard) (es : List Event) → opened route param ∷ ys ≡ first_frames 0 (map read es) → ⊥
+  frames_only ys [] e = let z : opened route param ∷ ys ≡ [] = e in cc
+  frames_only ys (x ∷ es) e = one (is_frame_heard (read x)) (frames_only ys es) e
+    where
+      one : (b : Bool) → (opened route param ∷ ys ≡ first_frames 0 (map read es) → ⊥) → opened route param ∷ ys ≡ cond b (first_frames 0 (map read es)) (read x ∷ first_frames 0 (map read es)) → ⊥
+      one true later e = later e
+      one false later e = let z : opened route param ∷ ys ≡ read x ∷ first_frames 0 (map read es) = e in cc
+
+  unopened : (last : Option ℕ) (xs : List Heard) (es : List Event) → to_hear last (opened route param ∷ xs) ≡ to_come last (map read es) → ⊥
+  unopened None xs [] e = let z : opened route param ∷ xs ≡ [] = e in cc
+  unopened None xs (x ∷ es) e = let z : opened route param ∷ xs ≡ read x ∷ map read es = e in cc
+  unopened (Some zero) xs es e = frames_only (first_frames zero xs) es e
+  unopened (Some (suc n)) xs es e = frames_only (first_frames (suc n) xs) es e
+
+module _ (table : RouteTable) (max : ℕ) where
   -- the head is judged
   pub head_waits : (heard : List Heard) (octets : List ℕ) (r : ReaderView) → HearsHead max heard octets r → Judged table octets more → HearsAll table max None heard octets
   head_waits heard octets r h judged = record { life = []; is = record { verdict = more; judged = judged; says = refl }; all = h.none }
@@ -170,17 +180,25 @@ module _ (table : RouteTable) (max : ℕ) where
       is = record { verdict = admit h.end h.route h.param h.accept h.protocol; judged = h.judged; says = refl };
       behind = to_come last (map read (r.ahead []));
       front = frames_life r h;
+      begun = λ none. absurd (unopened h.route h.param last (map read (reading max (drop h.end octets))) (r.ahead []) (frames_life r h ∙ ap (λ (hs : List Heard). hs ++ to_come last (map read (r.ahead []))) none));
     }
 
     pub front_of_all : HearsAll table max last heard octets → HearsFront table max last heard octets
-    front_of_all h = record { life = h.life; is = h.is; behind = []; front = sym h.all ∙ sym (append-nil heard) }
+    front_of_all h = record {
+      life = h.life;
+      is = h.is;
+      behind = [];
+      front = sym h.all ∙ sym (append-nil heard);
+      begun = λ none. silent table max octets h.life last h.is (sym h.all ∙ none);
+    }
 
-  pub front_of_head : (heard : List Heard) (octets : List ℕ) (verdict : Verdict) (r : ReaderView) → HearsHead max heard octets r → Judged table octets verdict → HearsFront table max None heard octets
-  front_of_head heard octets verdict r h judged = record {
-    life = life_by max octets verdict;
-    is = record { verdict = verdict; judged = judged; says = refl };
-    behind = life_by max octets verdict;
-    front = ap (λ (hs : List Heard). hs ++ life_by max octets verdict) (sym h.none);
+  pub front_of_head : (heard : List Heard) (octets : List ℕ) (r : ReaderView) → HearsHead max heard octets r → Judged table octets more → HearsFront table max None heard octets
+  front_of_head heard octets r h judged = record {
+    life = [];
+    is = record { verdict = more; judged = judged; says = refl };
+    behind = [];
+    front = ap (λ (hs : List Heard). hs ++ []) (sym h.none);
+    begun = λ none. refl;
   }
 
   -- a Close is served: of what is ahead, messages, pings and pongs are passed over

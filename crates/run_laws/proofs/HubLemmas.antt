@@ -1,33 +1,8 @@
 -- Calls in the forms in which a hub states them.
-use Rattle.std.proofs.Common.{◌≡◌, ◌≢◌, ℕ, List, [], ◌∷◌, ◌++◌, Option, Some, None, Bool, true, false, cond, not, nat_eq, ◌&&◌, ◌||◌, refl, sym, ap, ◌∙◌, subst, append-nil, ⊎_elim, arith}
-use Rattle.std.proofs.lemmas.Bool.{cases_eq, not-true}
-use Rattle.std.proofs.lemmas.Bool.Decides.{nat_tests}
-use Rattle.std.specs.List.{list_any, list_all}
-use Rattle.ws_kinds.specs.declared.note.Phase.{Phase}
-use Rattle.ws_kinds.specs.declared.note.Phase.TheVariants.{Head, Open, Leaving, Ending, Gone}
-use Rattle.ws_kinds.specs.ConfigValue.{ConfigValue}
+use Rattle.run_laws.proofs.Below.{◌≡◌, ◌≢◌, ℕ, List, [], ◌∷◌, ◌++◌, Option, Some, None, Bool, true, false, cond, not, nat_eq, ◌&&◌, ◌||◌, refl, sym, ap, ◌∙◌, subst, append-nil, ⊎_elim, arith, cases_eq, not-true, nat_tests, list_any, list_all, Phase, Head, Open, Leaving, Ending, Gone, ConfigValue, NoteValue, OrderValue, Pong, Item, reply, whole, close_item, is_of, is_acceptance, Line, World, appended, sends, is_open, line_after, after_own, noted, noted_all, HubState, Server, PartingValue, Entry, entry_at, no_entry, phase_at, nothing, only, served, Standing, standings, unless_gone, why_at, due_at, progress_at, standing_in, standings_at, topics_of, topics_at, Advances, Proceeds, Appends, clash, and_left, and_right, outgoing_unaccepted, unaccepted_then, TakesDue, table_of, noted_line, all_follow, all_then, none_follow, none_then, open_shown, Agrees, is_closed, is_wordless, is_quiet}
 use Rattle.ws_kinds.specs.NoteValue as note
-use Rattle.ws_kinds.specs.NoteValue.{NoteValue}
-use Rattle.ws_kinds.specs.OrderValue.{OrderValue}
-use Rattle.wire_meaning.specs.declared.frame.Opcode.TheVariants.{Pong}
-use Rattle.wire_meaning.specs.Answer.{Item, reply, whole, close_item}
-use Rattle.run_meaning.specs.Notes.{is_of, is_acceptance}
 use Rattle.run_meaning.specs.Server as run
-use Rattle.run_meaning.specs.Lines.{Line, World, appended, sends, is_open, line_after, after_own, noted, noted_all}
 use Rattle.hub_lines.specs.State as hub
-use Rattle.hub_lines.specs.State.{HubState, Server, PartingValue, Entry, entry_at, entry_of, no_entry, phase_at}
-use Rattle.hub_lines.specs.Calls.{nothing, only, served}
-use Rattle.run_meaning.specs.Orders.{Standing, standings, unless_gone, why_at}
-use Rattle.hub_notes.specs.Progress.{due_at, progress_at, standing_in, standings_at, topics_of, topics_at}
-use Rattle.hub_notes.specs.Calls.{Advances, Proceeds, Appends}
-use Rattle.hub_notes.proofs.BoolLemmas.{clash, and_left, and_right}
-use Rattle.hub_notes.proofs.TieLemmas.{outgoing_unaccepted, unaccepted_then}
-use Rattle.hub_notes.specs.Table.{TakesDue, table_of}
-use Rattle.run_meaning.proofs.LineLemmas.{noted_line}
-use Rattle.run_meaning.proofs.NoteLemmas.{all_follow, all_then, none_follow, none_then}
-use Rattle.run_meaning.proofs.StepLemmas.{open_shown}
-use Rattle.run_laws.specs.Agrees.{Agrees}
-use Rattle.run_laws.specs.Tests.{is_closed, is_wordless, is_quiet}
 use Rattle.run_laws.proofs.ProgressLemmas.{wordless_lines, outgoing_wordless, outgoing_unclosed, progress_is}
 use Rattle.run_laws.proofs.AgreeLemmas.{agrees_call}
 use Rattle.run_laws.proofs.CarryLemmas.{agrees_phase}

@@ -16,3 +16,5 @@ pub mod Counting
 pub mod HearLemmas
 pub mod Lives
 pub mod Replying
+pub mod Below
+pub mod All

@@ -1,21 +1,9 @@
 -- From what was heard to the relation of a run, and what notes say was heard.
-use Rattle.std.proofs.Common.{◌≡◌, ℕ, List, [], ◌∷◌, ◌++◌, Bool, true, false, not, refl, sym, ap, ◌∙◌, subst, append-nil, nat_eq}
-use Rattle.std.specs.List.{list_all}
-use Rattle.run_laws.proofs.Adding.{itself}
+use Rattle.run_laws.proofs.Below.{◌≡◌, ℕ, List, [], ◌∷◌, ◌++◌, Bool, true, false, not, refl, sym, ap, ◌∙◌, subst, append-nil, nat_eq, list_all, itself, and_left, and_right, NoteValue, Event, RouteTable, only_if, is_gone_phase, phase, Heard, opened, refused, read, heard, heard_by, to_hear, last_frame, Reaches, Lived, gather-append, heard_one, HearsAll, HearsFront, is_unheard, note_of_event}
 use Rattle.ws_kinds.specs.NoteValue as note
-use Rattle.ws_kinds.specs.NoteValue.{NoteValue}
 use Rattle.wire_meaning.specs.Event as wire
-use Rattle.wire_meaning.specs.Event.{Event}
-use Rattle.route_table.specs.Table.{RouteTable}
-use Rattle.run_meaning.specs.Counts.{only_if}
 use Rattle.run_meaning.specs.Server.{Server}
-use Rattle.run_meaning.specs.Lines.{is_gone_phase, phase}
-use Rattle.run_meaning.specs.Life.{Heard, opened, refused, read, heard, heard_by, to_hear, last_frame, Reaches, Lived}
-use Rattle.run_meaning.proofs.Parts.{gather-append}
-use Rattle.run_meaning.proofs.Singles.{heard_one}
-use Rattle.hub_notes.proofs.BoolLemmas.{and_left, and_right}
-use Rattle.run_laws.specs.Hears.{HearsAll, HearsFront}
-use Rattle.run_laws.specs.Unheard.{is_unheard, note_of_event}
+use Rattle.run_laws.proofs.HearLemmas.{silent}
 
 reaches_all : {A : Type 0} (b : Bool) (xs : List A) → Reaches b xs xs
 reaches_all true xs = ([], sym (append-nil xs))
@@ -27,6 +15,7 @@ module _ {S : Type 0} (server : Server S) (table : RouteTable) (max : ℕ) (note
     life = h.life;
     is = h.is;
     reaches = subst (λ (hs : List Heard). Reaches (is_gone_phase (phase server notes conn)) (heard conn notes) hs) h.all (reaches_all (is_gone_phase (phase server notes conn)) (heard conn notes));
+    begun = λ none. silent table max octets h.life (last_frame server notes conn) h.is (sym h.all ∙ none);
   }
 
   pub lived_of_front : HearsFront table max (last_frame server notes conn) (heard conn notes) octets → is_gone_phase (phase server notes conn) ≡ true → Lived server table max notes conn octets
@@ -34,6 +23,7 @@ module _ {S : Type 0} (server : Server S) (table : RouteTable) (max : ℕ) (note
     life = h.life;
     is = h.is;
     reaches = subst (λ b. Reaches b (heard conn notes) (to_hear (last_frame server notes conn) h.life)) (sym gone) (h.behind, h.front);
+    begun = h.begun;
   }
 
 -- what is heard by some notes and by more

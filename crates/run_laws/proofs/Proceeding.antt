@@ -1,25 +1,7 @@
 -- Notes of a call that read nothing, and of what it sent.
-use Rattle.std.proofs.Common.{◌≡◌, ℕ, List, [], ◌∷◌, ◌++◌, Bool, true, false, ◌||◌, nat_eq, refl, sym, ap, ◌∙◌}
-use Rattle.std.specs.List.{list_all}
+use Rattle.run_laws.proofs.Below.{◌≡◌, ℕ, List, [], ◌∷◌, ◌++◌, Bool, true, false, ◌||◌, nat_eq, refl, sym, ap, ◌∙◌, list_all, and_from, not-true, PeerEnd, LinkFailed, Idle, Finished, NoteValue, is_left, is_gone_by, gather, accepted_by, given_by, given, has_number, total, is_gone_by_in, is_accepted, NetState, Follows, Mark, marks_by, gather-append, list_all-append, Server, is_outgoing, all_follow, NetAfter, FailsAfter, Proceeds, clash, and_left, and_right, FollowsBut, is_unread, is_of_orders}
 use Rattle.std.proofs.lemmas.Bool as bools
-use Rattle.std.proofs.lemmas.Bool.{and_from, not-true}
-use Rattle.ws_kinds.specs.declared.note.Left.TheVariants.{PeerEnd, LinkFailed, Idle, Finished}
 use Rattle.ws_kinds.specs.NoteValue as note
-use Rattle.ws_kinds.specs.NoteValue.{NoteValue}
-use Rattle.run_meaning.specs.Notes.{is_left, is_gone_by}
-use Rattle.run_meaning.specs.Counts.{gather, accepted_by, given_by, given, has_number, total, is_gone_by_in, is_accepted}
-use Rattle.link_trait.specs.NetState.{NetState}
-use Rattle.run_meaning.specs.Network.{Follows, Mark, marks_by}
-use Rattle.run_meaning.proofs.Parts.{gather-append, list_all-append}
-use Rattle.hub_lines.specs.State.{Server}
-use Rattle.run_meaning.specs.Performs.{is_outgoing}
-use Rattle.run_meaning.proofs.NoteLemmas.{all_follow}
-use Rattle.hub_notes.specs.NetAfter.{NetAfter, FailsAfter}
-use Rattle.hub_notes.specs.Calls.{Proceeds}
-use Rattle.hub_notes.proofs.BoolLemmas.{clash, and_left, and_right}
-use Rattle.run_laws.specs.Steps.{FollowsBut}
-use Rattle.run_laws.specs.Unread.{is_unread}
-use Rattle.run_laws.specs.Tests.{is_of_orders}
 use Rattle.run_laws.proofs.Adding.{gathers_none, but_none, none_but}
 use Rattle.run_laws.proofs.Calling.{call_plain, call_marked}
 

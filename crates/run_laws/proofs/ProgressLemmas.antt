@@ -1,41 +1,9 @@
 -- What notes make of a line, and of the progress that it tells.
-use Rattle.std.proofs.Common.{◌≡◌, ℕ, List, [], ◌∷◌, ◌++◌, Option, Some, None, Bool, true, false, cond, refl, sym, ap, ◌∙◌, subst, append-nil}
-use Rattle.std.specs.List.{list_all, list_any}
-use Rattle.ws_kinds.specs.declared.note.Phase.{Phase}
-use Rattle.ws_kinds.specs.declared.note.Phase.TheVariants.{Head, Open, Leaving, Ending, Gone}
+use Rattle.run_laws.proofs.Below.{◌≡◌, ℕ, List, [], ◌∷◌, ◌++◌, Option, Some, None, Bool, true, false, cond, refl, sym, ap, ◌∙◌, subst, append-nil, list_all, list_any, Phase, Head, Open, Leaving, Ending, Gone, NoteValue, Item, is_of, accepted_by, closed_by, closes, has_number, is_accepted, Line, moved, leaves_open, topics_left, cause_of, appended, after_own, line_after, closes-append, is_outgoing, Progress, progress_by, progress_after, progress_after_all, unless_gone, by_cases, clash, or_left, or_right, and_left, and_right, untold, line_progress, is_early, IsToldOnce, TopicsEnd, lines_after, own_line, other_line, all_follow, none_follow, none_moves, moves_shown, ends_left, gone_moves, leaves_shown, is_closed, is_wordless, rest_unaccepted}
 use Rattle.ws_kinds.specs.NoteValue as note
-use Rattle.ws_kinds.specs.NoteValue.{NoteValue}
-use Rattle.wire_meaning.specs.Answer.{Item}
-use Rattle.run_meaning.specs.Notes.{is_of}
-use Rattle.run_meaning.specs.Counts.{gather, accepted_by, closed_by, closes, has_number, is_accepted}
 use Rattle.run_meaning.specs.Server.{Server}
-use Rattle.run_meaning.specs.Lines.{Line, moved, leaves_open, topics_left, cause_of, appended, after_own, line_after}
-use Rattle.run_meaning.proofs.Parts.{closes-append}
-use Rattle.run_meaning.proofs.Kept.{has_number-append}
-use Rattle.run_meaning.specs.Performs.{is_outgoing}
-use Rattle.hub_notes.specs.Progress.{Progress, progress_by, progress_after, progress_after_all}
-use Rattle.run_meaning.specs.Orders.{unless_gone}
-use Rattle.hub_notes.proofs.BoolLemmas.{by_cases, clash, or_left, or_right, and_left, and_right}
-use Rattle.run_laws.specs.Agrees.{untold, line_progress, is_early, IsToldOnce}
-use Rattle.run_meaning.specs.Bridge.{TopicsEnd}
-use Rattle.run_meaning.proofs.LineLemmas.{lines_after, own_line, other_line}
-use Rattle.run_meaning.proofs.NoteLemmas.{all_follow, none_follow}
-use Rattle.run_meaning.proofs.StepLemmas.{none_moves, moves_shown, ends_left}
-use Rattle.run_laws.specs.Tests.{is_closed, is_wordless}
 
 -- ---- phases
-
-gone_moves : (n : NoteValue) → moved (Some Gone) n ≡ Some Gone
-gone_moves (note.gone d left) = refl
-gone_moves _ = refl
-
-leaves_shown : (p : Option Phase) (n : NoteValue) → leaves_open (unless_gone p) (moved (unless_gone p) n) ≡ leaves_open p (moved p n)
-leaves_shown None n = refl
-leaves_shown (Some Head) n = refl
-leaves_shown (Some Open) n = refl
-leaves_shown (Some Leaving) n = refl
-leaves_shown (Some Ending) n = refl
-leaves_shown (Some Gone) n = refl
 
 -- a phase before Open's end follows none but such a phase
 pub early_before : (p : Option Phase) (n : NoteValue) → moved None n ≡ None → is_early (moved p n) ≡ true → is_early p ≡ true
@@ -101,11 +69,6 @@ once_more true x left told h once = subst (λ (z : List (ℕ × List ℕ)). IsTo
 once_more false x left told h once = once
 
 -- ---- notes that are told of nobody's acceptance, or of nobody's end
-
-pub rest_unaccepted : (c : ℕ) (n : NoteValue) (ns : List NoteValue) → is_accepted c (n ∷ ns) ≡ false → (has_number c (accepted_by n) ≡ false) × (is_accepted c ns ≡ false)
-rest_unaccepted c n ns e =
-    let both = sym (has_number-append c (accepted_by n) (gather accepted_by ns)) ∙ e in
-    (or_left (has_number c (accepted_by n)) (is_accepted c ns) both, or_right (has_number c (accepted_by n)) (is_accepted c ns) both)
 
 one_unclosed : (c : ℕ) (n : NoteValue) → is_closed n ≡ false → closed_by c n ≡ []
 one_unclosed c (note.closed d code r) e = clash true e refl

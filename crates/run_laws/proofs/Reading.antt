@@ -1,23 +1,8 @@
 -- What a read of a net and the note of it add.
-use Rattle.std.proofs.Common.{◌≡◌, ◌≢◌, ◌+◌, ℕ, List, [], ◌∷◌, ◌++◌, Bool, true, false, ◌||◌, ◌&&◌, cond, length, take, refl, sym, ap, ◌∙◌, subst, append-nil, length-append, add-zero}
-use Rattle.std.proofs.Math.Bool.{or-true}
-use Rattle.std.proofs.lemmas.List.{length-take-le}
-use Rattle.std.specs.List.{flat_map}
-use Rattle.ws_kinds.specs.declared.note.Left.{Left}
-use Rattle.ws_kinds.specs.declared.note.Left.TheVariants.{PeerEnd, LinkFailed}
+use Rattle.run_laws.proofs.Below.{◌≡◌, ◌≢◌, ◌+◌, ℕ, List, [], ◌∷◌, ◌++◌, Bool, true, false, ◌||◌, ◌&&◌, cond, length, take, refl, sym, ap, ◌∙◌, subst, append-nil, length-append, add-zero, or-true, or_false, length-take-le, flat_map, Left, PeerEnd, LinkFailed, NoteValue, NetState, Reads, ReadTold, SameTrafficBut, NetEvent, NetRead, is_left, gather, writes, taken, given, is_gone_by_in, is_accepted, total, Follows, Mark, marks_by, marks_of, NetAfter, FailsAfter, FollowsAt, itself, is_other}
 use Rattle.ws_kinds.specs.NoteValue as note
-use Rattle.ws_kinds.specs.NoteValue.{NoteValue}
-use Rattle.link_trait.specs.NetState.{NetState}
-use Rattle.link_trait.specs.Net.{Reads, ReadTold, SameTrafficBut}
-use Rattle.link_trait.specs.declared.net.NetEvent.{NetEvent}
-use Rattle.link_trait.specs.declared.net.NetRead.{NetRead}
 use Rattle.link_trait.specs.declared.net.NetRead.TheVariants as read
-use Rattle.run_meaning.specs.Notes.{is_left}
-use Rattle.run_meaning.specs.Counts.{gather, writes, taken, given, is_gone_by_in, is_accepted, total}
-use Rattle.run_meaning.specs.Network.{Follows, Mark, marks_by, marks_of}
-use Rattle.hub_notes.specs.NetAfter.{NetAfter, FailsAfter}
-use Rattle.run_laws.specs.Steps.{FollowsAt}
-use Rattle.run_laws.proofs.Adding.{Adds, or_false, itself, is_other, same_or_not, but_adds, but_none, none_but}
+use Rattle.run_laws.proofs.Adding.{Adds, same_or_not, but_adds, but_none, none_but}
 use Rattle.run_laws.proofs.Calling.{after_adds, call_adds}
 
 -- ---- what one note says of a connection

@@ -1,14 +1,6 @@
 -- The texts of replies, before more notes and octets.
-use Rattle.std.proofs.Common.{◌≡◌, ◌≢◌, ℕ, List, ◌∷◌, ◌++◌, Bool, true, false, ◌||◌, refl, sym, ap, ◌∙◌, subst}
-use Rattle.std.proofs.Math.Bool.{or-true}
-use Rattle.run_laws.proofs.Adding.{itself}
+use Rattle.run_laws.proofs.Below.{◌≡◌, ◌≢◌, ℕ, List, ◌∷◌, ◌++◌, Bool, true, false, ◌||◌, refl, sym, ap, ◌∙◌, subst, or-true, itself, NoteValue, RouteTable, Verdict, more, admit, Judged, answer_text, judged_stays, AreReplies, AreAdmitted, is_admitted, is_opened, is_opened_in, list_any-append}
 use Rattle.ws_kinds.specs.NoteValue as note
-use Rattle.ws_kinds.specs.NoteValue.{NoteValue}
-use Rattle.route_table.specs.Table.{RouteTable}
-use Rattle.upgrade_head.specs.Judged.{Verdict, more, admit, Judged, answer_text}
-use Rattle.upgrade_head.proofs.JudgedLemmas.{judged_stays}
-use Rattle.run_meaning.specs.Replies.{AreReplies, is_admitted, is_opened, is_opened_in}
-use Rattle.run_meaning.proofs.Parts.{list_any-append}
 
 -- an opened connection stays opened
 pub opened_more : (conn : ℕ) (notes later : List NoteValue) → is_opened_in conn notes ≡ true → is_opened_in conn (notes ++ later) ≡ true
@@ -32,6 +24,13 @@ module _ (table : RouteTable) where
       agree conn verdict (opened_more conn notes later here)
       (subst (λ (os : List ℕ). Judged table os verdict) (sym rest.1) (judged_stays table (octets conn) rest.0 verdict judged (not_more verdict admitted)))
       admitted
+
+  -- who was admitted stays so as octets come
+  pub admitted_longer : (notes : List NoteValue) (octets all : ℕ → List ℕ) → ((conn : ℕ) → (behind : List ℕ) × (all conn ≡ octets conn ++ behind)) → AreAdmitted table notes octets → AreAdmitted table notes all
+  admitted_longer notes octets all longer admitted conn here =
+      let x = admitted conn here in
+      let rest = longer conn in
+      (x.0, subst (λ (os : List ℕ). Judged table os x.0) (sym rest.1) (judged_stays table (octets conn) rest.0 x.0 x.1 (not_more x.0 x.2)), x.2)
 
   -- the reply to a connection that one of the notes opened, where these octets of it were judged first
   pub reply_of_opened : (notes later : List NoteValue) (octets : ℕ → List ℕ) (replies : ℕ → List ℕ) (conn other : ℕ) (named first behind : List ℕ) (end route : ℕ) (param accept : List ℕ) (protocol : Bool)

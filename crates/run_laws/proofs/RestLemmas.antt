@@ -1,23 +1,5 @@
 -- What agrees of a connection besides what is due of it: its phase, its line, the count of its items, and what its link took.
-use Rattle.std.proofs.Common.{◌≡◌, ◌≢◌, ◌<◌, ◌≤◌, ◌+◌, ◌^◌, ◌-◌, ℕ, List, ◌++◌, Option, Some, None, true, false, length, refl, sym, ap, ◌∙◌, subst, length-append, arith}
-use Rattle.ws_kinds.specs.declared.note.Phase.{Phase}
-use Rattle.ws_kinds.specs.declared.note.Phase.TheVariants.{Head, Open, Leaving, Ending, Gone}
-use Rattle.ws_kinds.specs.NoteValue.{NoteValue}
-use Rattle.link_trait.specs.NetState.{NetState}
-use Rattle.wire_meaning.specs.Answer.{Item}
-use Rattle.run_meaning.specs.Lines.{is_gone_phase}
-use Rattle.hub_lines.specs.Told.{taken_of, is_dropped}
-use Rattle.hub_lines.specs.State.{HubState, Server, server, is_present}
-use Rattle.hub_lines.specs.Lines.{Held, Stands, StandsFor, StandsTold, held_at}
-use Rattle.hub_lines.specs.Calls.{KeepsLine}
-use Rattle.hub_lines.proofs.KeptLemmas.{kept_same}
-use Rattle.hub_notes.specs.Progress.{progress_at}
-use Rattle.run_meaning.specs.Orders.{unless_gone}
-use Rattle.hub_lines.specs.Fronts.{TakesFront}
-use Rattle.hub_notes.specs.Fronts.{KeepsFront, items_at}
-use Rattle.hub_notes.proofs.BoolLemmas.{by_cases, clash}
-use Rattle.hub_notes.proofs.FrontLemmas.{front_later}
-use Rattle.hub_notes.proofs.TieLemmas.{away_by_phase, phase_of_away}
+use Rattle.run_laws.proofs.Below.{◌≡◌, ◌≢◌, ◌<◌, ◌≤◌, ◌+◌, ◌^◌, ◌-◌, ℕ, List, ◌++◌, Option, Some, None, true, false, length, refl, sym, ap, ◌∙◌, subst, length-append, arith, Phase, Head, Open, Leaving, Ending, Gone, NoteValue, NetState, Item, is_gone_phase, taken_of, is_dropped, HubState, Server, server, is_present, Held, Stands, StandsFor, StandsTold, held_at, KeepsLine, kept_same, progress_at, unless_gone, TakesFront, KeepsFront, items_at, by_cases, clash, front_later, away_by_phase, phase_of_away}
 
 -- by its phase and its items
 pub record Rests (conn : ℕ) (phase : Option Phase) (items : List Item) (s : Server) : Type 0 where

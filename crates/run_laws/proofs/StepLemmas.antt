@@ -1,38 +1,9 @@
 -- A hub beside its notes, after a call that is told by its steps; and after the orders of an event.
-use Rattle.std.proofs.Common.{◌≡◌, ◌<◌, ◌^◌, ◌-◌, ◌+◌, ℕ, List, [], ◌∷◌, ◌++◌, Option, Some, None, Bool, true, false, cond, not, ◌&&◌, nat_eq, length, refl, sym, ap, ◌∙◌, subst, append-nil, append_assoc, length-append, arith}
-use Rattle.std.specs.List.{list_all, list_any}
-use Rattle.ws_kinds.specs.declared.note.Phase.{Phase}
-use Rattle.ws_kinds.specs.declared.note.Phase.TheVariants.{Head, Open, Leaving, Ending, Gone}
-use Rattle.ws_kinds.specs.declared.note.Why.{Why}
-use Rattle.ws_kinds.specs.ConfigValue.{ConfigValue}
+use Rattle.run_laws.proofs.Below.{◌≡◌, ◌<◌, ◌^◌, ◌-◌, ◌+◌, ℕ, List, [], ◌∷◌, ◌++◌, Option, Some, None, Bool, true, false, cond, not, ◌&&◌, nat_eq, length, refl, sym, ap, ◌∙◌, subst, append-nil, append_assoc, length-append, arith, list_all, list_any, Phase, Head, Open, Leaving, Ending, Gone, Why, ConfigValue, NoteValue, EventValue, OrderValue, send, subscribe, unsubscribe, publish, close, Item, is_acceptance, closes, is_accepted, has_number, accepted_by, is_dropped, Line, is_open, closing, leaves_open, topics_left, with_topic, without_topic, has_topic, put, data_frame, closed_by_server, obey, World, line_after, noted, noted_all, world, orders_of, Standing, unless_gone, standing_of, is_away, Ordered, event_at, Server, is_present, by_note, by_order, notes_of, standings_after, is_for, items_of, line_by, line_by_all, is_outgoing, Answers, Performs, serves, refuses, Covers, same, event_lines, event_state, event_ordered, all_follow, all_then, none_follow, notes_of-append, notes_of-notes, act, open_shown, accepts_none, items_steps, ends_obeys, Progress, progress_at, progress_by_step, progress_by_steps, progress_obeys, may_step, may_all_step, standing_in, standings_at, Does, ServesAll, by_cases, clash, and_left, and_right, front_later, away_by_phase, unaccepted, AgreesAt, Agrees, line_progress, untold, is_early, IsToldOnce, is_closed, is_of_orders}
 use Rattle.ws_kinds.specs.NoteValue as note
-use Rattle.ws_kinds.specs.NoteValue.{NoteValue}
-use Rattle.ws_kinds.specs.EventValue.{EventValue}
-use Rattle.ws_kinds.specs.OrderValue.{OrderValue, send, subscribe, unsubscribe, publish, close}
-use Rattle.wire_meaning.specs.Answer.{Item}
-use Rattle.run_meaning.specs.Notes.{is_acceptance}
-use Rattle.run_meaning.specs.Counts.{closes, is_accepted, has_number, accepted_by}
-use Rattle.hub_lines.specs.Told.{is_dropped}
 use Rattle.run_meaning.specs.Server as run
-use Rattle.run_meaning.specs.Lines.{Line, is_open, closing, leaves_open, topics_left, with_topic, without_topic, has_topic, put, data_frame, closed_by_server, obey, World, line_after, noted, noted_all, world, orders_of}
-use Rattle.run_meaning.specs.Orders.{Standing, unless_gone, standing_of, is_away, Ordered, event_at}
-use Rattle.hub_lines.specs.State.{Server, is_present}
-use Rattle.run_meaning.specs.Steps.{Step, by_note, by_order, notes_of, standings_after, is_for, items_of, line_by, line_by_all}
-use Rattle.run_meaning.specs.Performs.{is_outgoing, Answers, Performs}
-use Rattle.run_meaning.specs.Performs.Answers.{serves, refuses}
-use Rattle.run_meaning.specs.Bridge.{Covers}
-use Rattle.run_meaning.specs.Bridge.Covers.{same, more}
-use Rattle.run_meaning.proofs.OrderedLemmas.{event_lines, event_state, event_ordered}
-use Rattle.run_meaning.proofs.NoteLemmas.{all_follow, all_then, none_follow, notes_of-append, notes_of-notes}
-use Rattle.run_meaning.proofs.StepLemmas.{act, open_shown, accepts_none, items_steps, ends_obeys}
-use Rattle.hub_notes.specs.Progress.{Progress, progress_at, progress_by_step, progress_by_steps, progress_obeys, may_step, may_all_step, standing_in, standings_at}
-use Rattle.hub_notes.specs.Calls.{Does}
-use Rattle.hub_notes.specs.Serving.{ServesAll}
-use Rattle.hub_notes.proofs.BoolLemmas.{by_cases, clash, and_left, and_right}
-use Rattle.hub_notes.proofs.FrontLemmas.{front_later}
-use Rattle.hub_notes.proofs.TieLemmas.{away_by_phase, unaccepted}
-use Rattle.run_laws.specs.Agrees.{AgreesAt, Agrees, line_progress, untold, is_early, IsToldOnce}
-use Rattle.run_laws.specs.Tests.{is_closed, is_of_orders}
+use Rattle.run_meaning.specs.Steps.{Step}
+use Rattle.run_meaning.specs.Bridge.Covers.{more}
 use Rattle.run_laws.proofs.ProgressLemmas.{Ends, progress_is, due_shown, once_more, none_before, one_progress, closes_same, unclosed, all_none}
 use Rattle.run_laws.proofs.WorldLemmas.{obeys_by, none_obeys}
 use Rattle.run_laws.proofs.RestLemmas.{rests_then}

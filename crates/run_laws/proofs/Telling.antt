@@ -1,26 +1,8 @@
 -- What `next` and `shut` of a net, and single notes, leave of the notes beside the net.
-use Rattle.std.proofs.Common.{◌≡◌, ◌<◌, ◌+◌, ◌||◌, ◌&&◌, nat_eq, ◌^◌, ◌-◌, ℕ, List, [], ◌∷◌, ◌++◌, Bool, true, false, cond, nat_lt, length, refl, sym, ap, ◌∙◌, append-nil, arith}
-use Rattle.std.proofs.lemmas.Bool.Decides.{nat_tests}
-use Rattle.std.proofs.lemmas.Grind.{flat_map-append}
-use Rattle.std.specs.List.{flat_map}
-use Rattle.ws_kinds.specs.declared.note.Left.{Left}
-use Rattle.ws_kinds.specs.declared.note.Left.TheVariants.{PeerEnd, LinkFailed, Idle, Finished}
+use Rattle.run_laws.proofs.Below.{◌≡◌, ◌<◌, ◌+◌, ◌||◌, ◌&&◌, nat_eq, ◌^◌, ◌-◌, ℕ, List, [], ◌∷◌, ◌++◌, Bool, true, false, cond, nat_lt, length, refl, sym, ap, ◌∙◌, append-nil, arith, nat_tests, flat_map-append, flat_map, Left, PeerEnd, LinkFailed, NoteValue, NetState, Nexts, Shuts, SameTraffic, passing, passed_after, NetEvent, writes, taken, given, is_gone_by_in, is_accepted, Follows, Mark, marks_by, marks_of, is_aside, is_inner, follows_aside, other_left, clash, or_none, below, plus_none, FollowsBut, or_false}
 use Rattle.ws_kinds.specs.NoteValue as note
-use Rattle.ws_kinds.specs.NoteValue.{NoteValue}
-use Rattle.link_trait.specs.NetState.{NetState}
-use Rattle.link_trait.specs.Net.{Nexts, Shuts, SameTraffic, passing, passed_after}
-use Rattle.link_trait.specs.declared.net.NetEvent.{NetEvent}
 use Rattle.link_trait.specs.declared.net.NetEvent.TheVariants as event
-use Rattle.run_meaning.specs.Notes.{is_left}
-use Rattle.run_meaning.specs.Counts.{writes, taken, given, is_gone_by_in, is_accepted}
-use Rattle.run_meaning.specs.Network.{Follows, Mark, marks_by, marks_of, is_aside, is_inner}
-use Rattle.run_meaning.proofs.Following.{follows_aside}
-use Rattle.hub_notes.proofs.BoolLemmas.{clash}
-use Rattle.run_laws.specs.Steps.{FollowsBut}
-use Rattle.run_laws.proofs.Adding.{Adds, or_false, at_same, but_adds, but_none, none_but}
-
-below : (n last : ℕ) → n < last → nat_lt n last ≡ true
-below n last l = grind (arith, nat_tests)
+use Rattle.run_laws.proofs.Adding.{Adds, at_same, but_adds, but_none, none_but}
 
 -- the marks of what passed
 marks_passing : (answer : NetEvent) → flat_map marks_of (passing answer) ≡ marks_of answer
@@ -78,12 +60,6 @@ aside_follows ns this net aside unmarked f =
 
 -- ---- a note that says nothing of a link
 
-or_none : (a b : Bool) → b ≡ false → a ≡ (a || b)
-or_none a b e = sym (or_false a) ∙ ap (λ (z : Bool). a || z) (sym e)
-
-plus_none : (n m : ℕ) → m ≡ 0 → n ≡ n + m
-plus_none n m e = omega arith
-
 none_accepted : (c : ℕ) (this : NoteValue) → is_aside this ≡ true → is_accepted c (this ∷ []) ≡ false
 none_accepted c (note.accepted d) e = clash false refl e
 none_accepted c _ e = refl
@@ -99,18 +75,6 @@ none_taken c _ e = refl
 none_given : (c : ℕ) (this : NoteValue) → is_aside this ≡ true → given c (this ∷ []) ≡ 0
 none_given c (note.given d k) e = clash false refl e
 none_given c _ e = refl
-
-other_left : (l m : Left) → is_inner l ≡ false → is_inner m ≡ true → is_left l m ≡ false
-other_left l PeerEnd e h = clash false refl h
-other_left l LinkFailed e h = clash false refl h
-other_left PeerEnd Idle e h = refl
-other_left PeerEnd Finished e h = refl
-other_left LinkFailed Idle e h = refl
-other_left LinkFailed Finished e h = refl
-other_left Idle Idle e h = clash true e refl
-other_left Idle Finished e h = clash true e refl
-other_left Finished Idle e h = clash true e refl
-other_left Finished Finished e h = clash true e refl
 
 none_gone : (c : ℕ) (l : Left) (this : NoteValue) → is_inner l ≡ false → is_aside this ≡ true → is_gone_by_in c l (this ∷ []) ≡ false
 none_gone c l (note.gone d m) e h = ap (λ (z : Bool). (nat_eq d c && z) || false) (other_left l m e h) ∙ both (nat_eq d c)

@@ -1,29 +1,10 @@
 -- What holds of a connection by all notes of a run, whatever orders are served.
-use Rattle.std.proofs.Common.{◌≡◌, ◌≢◌, ◌+◌, ℕ, List, [], ◌∷◌, ◌++◌, Option, Some, None, is_some, Bool, true, false, cond, nat_eq, ◌&&◌, ◌||◌, refl, sym, ap, ◌∙◌, subst, append-nil, append_assoc}
-use Rattle.std.specs.List.{list_any}
-use Rattle.std.proofs.Math.Bool.{and-false, or_assoc}
+use Rattle.run_laws.proofs.Below.{◌≡◌, ◌≢◌, ◌+◌, ℕ, List, [], ◌∷◌, ◌++◌, Option, Some, None, is_some, Bool, true, false, cond, nat_eq, ◌&&◌, ◌||◌, refl, sym, ap, ◌∙◌, subst, append-nil, append_assoc, list_any, and-false, or_assoc, Phase, Head, Open, Leaving, Ending, Gone, ConfigValue, NoteValue, EventValue, OrderValue, send, subscribe, unsubscribe, publish, close, is_of, is_event, is_unserved, is_acceptance, window, gather, has_number, accepted_by, is_accepted, Line, World, moved, closing, leaves_open, cause_of, after_own, line_after, noted, noted_all, step, run, world, first_world, answered, event_of, orders_of, is_refused, obey, obeyed, phase, Ordered, is_for, has_number-append, lines_after, noted_line, ordered_other, perform-line, world_plain, act, obey_acts, clash, or_left, or_right, and_true}
 use Rattle.run_laws.proofs.Adding.{same_number}
-use Rattle.ws_kinds.specs.declared.note.Phase.{Phase}
-use Rattle.ws_kinds.specs.declared.note.Phase.TheVariants.{Head, Open, Leaving, Ending, Gone}
-use Rattle.ws_kinds.specs.ConfigValue.{ConfigValue}
 use Rattle.ws_kinds.specs.NoteValue as note
-use Rattle.ws_kinds.specs.NoteValue.{NoteValue}
 use Rattle.ws_kinds.specs.EventValue as event
-use Rattle.ws_kinds.specs.EventValue.{EventValue}
-use Rattle.ws_kinds.specs.OrderValue.{OrderValue, send, subscribe, unsubscribe, publish, close}
-use Rattle.run_meaning.specs.Notes.{is_of, is_event, is_unserved, is_acceptance, window}
-use Rattle.run_meaning.specs.Counts.{gather, has_number, accepted_by, is_accepted}
 use Rattle.run_meaning.specs.Server as run
-use Rattle.run_meaning.specs.Lines.{Line, World, moved, closing, leaves_open, cause_of, after_own, line_after, noted, noted_all, step, run, world, first_world, answered, event_of, orders_of, is_refused, obey, obeyed, phase}
-use Rattle.run_meaning.specs.Orders.{Ordered}
-use Rattle.run_meaning.specs.Steps.{is_for}
-use Rattle.run_meaning.proofs.Kept.{has_number-append}
-use Rattle.run_meaning.proofs.LineLemmas.{lines_after, noted_line}
-use Rattle.run_meaning.proofs.Ordering.{ordered_other}
-use Rattle.run_meaning.proofs.Underway.{perform-line}
-use Rattle.run_meaning.proofs.Worlds.{world_plain}
-use Rattle.run_meaning.proofs.StepLemmas.{act, obey_acts}
-use Rattle.hub_notes.proofs.BoolLemmas.{clash, or_left, or_right, or_false, and_true}
+use Rattle.ws_kinds.proofs.Facts.{or_false}
 
 -- ---- one note
 

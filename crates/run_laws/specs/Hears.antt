@@ -37,9 +37,10 @@ pub record HearsAll (table : RouteTable) (max : ℕ) (last : Option ℕ) (heard 
   pub is : IsLife table max octets life
   pub all : heard ≡ to_hear last life
 
--- of a connection that is gone: what was heard is a front of that
+-- of a connection that is gone: what was heard is a front of that, and not empty where the octets say something
 pub record HearsFront (table : RouteTable) (max : ℕ) (last : Option ℕ) (heard : List Heard) (octets : List ℕ) : Type 0 where
   pub life : List Heard
   pub is : IsLife table max octets life
   pub behind : List Heard
   pub front : to_hear last life ≡ heard ++ behind
+  pub begun : heard ≡ [] → life ≡ []

@@ -6,3 +6,4 @@ pub mod Unread
 pub mod Readers
 pub mod Hears
 pub mod Unheard
+pub mod All

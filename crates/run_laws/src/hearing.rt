@@ -5,14 +5,14 @@ ghost use Rattle.ws_kinds.specs.NoteValue.{NoteValue, opened as opened_note};
 ghost use Rattle.wire_meaning.specs.Event.{Event};
 ghost use Rattle.wire_meaning.specs.Reading.{reading};
 ghost use Rattle.route_table.specs.Table.{RouteTable};
-ghost use Rattle.upgrade_head.specs.Judged.{Verdict, more, admit, refuse, Judged, answer_text};
+ghost use Rattle.upgrade_head.specs.Judged.{more, admit, refuse, Judged, answer_text};
 ghost use Rattle.frame_reader.specs.declared.reader.Reader.{Reader};
 ghost use Rattle.frame_reader.specs.declared.step.Step.{Step};
 ghost use Rattle.frame_reader.specs.Step.{events_of, HasStepped};
 ghost use Rattle.run_meaning.specs.Server.{Server};
 ghost use Rattle.run_meaning.specs.Lines.{is_gone_phase, phase};
 ghost use Rattle.run_meaning.specs.Life.{Heard, opened, refused, read, heard, is_frame_heard, frames_in, last_frame, Lived};
-ghost use Rattle.run_meaning.specs.Replies.{AreReplies};
+ghost use Rattle.run_meaning.specs.Replies.{AreAdmitted, AreReplies};
 ghost use Rattle.run_laws.specs.Readers.{ReaderView, reader_view, IsFed, IsRead};
 ghost use Rattle.run_laws.specs.Hears.{HearsHead, HearsFrames, HearsAll, HearsFront, to_come};
 
@@ -57,12 +57,13 @@ pub fn close_served()
         HearsFrames table max (Some (frames_in heard)) heard octets reader }
 {}
 
-/// Wherever a connection is gone, what was heard is a front of what is to be heard of its octets.
+/// Wherever a connection is gone, what was heard is a front of what is to be heard of its octets, and it was opened or told its status
+/// where its head is decided: in phase Head more octets are needed.
 pub fn gone()
     ensures frames { (table : RouteTable) (max : ℕ) (last : Option ℕ) (heard : List Heard) (octets : List ℕ) (reader : ReaderView) → HearsFrames table max last heard octets reader →
         HearsFront table max last heard octets }
-    ensures head { (table : RouteTable) (max : ℕ) (heard : List Heard) (octets : List ℕ) (verdict : Verdict) (reader : ReaderView) → HearsHead max heard octets reader →
-        Judged table octets verdict → HearsFront table max None heard octets }
+    ensures head { (table : RouteTable) (max : ℕ) (heard : List Heard) (octets : List ℕ) (reader : ReaderView) → HearsHead max heard octets reader →
+        Judged table octets more → HearsFront table max None heard octets }
     ensures all { (table : RouteTable) (max : ℕ) (last : Option ℕ) (heard : List Heard) (octets : List ℕ) → HearsAll table max last heard octets → HearsFront table max last heard octets }
 {}
 
@@ -75,11 +76,13 @@ pub fn lived<H: Handler>()
 {}
 
 /// Texts that agree with the judging of all octets, beside all notes, agree with that of the first ones, beside the first
-/// notes: an opened connection stays opened, and what was decided of its request stays so. The reply to a connection that was
+/// notes: an opened connection stays opened, and what was decided of its request stays so; so who was admitted stays admitted. The reply to a connection that was
 /// opened is the answer to its request: to the octets that were judged before the note Opened, whatever came behind them.
 pub fn replies()
     ensures before { (table : RouteTable) (notes later : List NoteValue) (octets all : ℕ → List ℕ) (replies : ℕ → List ℕ) → AreReplies table (notes ++ later) all replies →
         ((conn : ℕ) → (behind : List ℕ) × (all conn ≡ octets conn ++ behind)) → AreReplies table notes octets replies }
+    ensures admitted { (table : RouteTable) (notes : List NoteValue) (octets all : ℕ → List ℕ) → ((conn : ℕ) → (behind : List ℕ) × (all conn ≡ octets conn ++ behind)) →
+        AreAdmitted table notes octets → AreAdmitted table notes all }
     ensures opened { (table : RouteTable) (notes later : List NoteValue) (octets : ℕ → List ℕ) (replies : ℕ → List ℕ) (conn other : ℕ) (named first behind : List ℕ) (end route : ℕ)
         (param accept : List ℕ) (protocol : Bool) →
         AreReplies table (notes ++ opened_note conn other named ∷ later) octets replies → octets conn ≡ first ++ behind → Judged table first (admit end route param accept protocol) →

@@ -1,27 +1,9 @@
 -- The steps of an event's orders beside the notes that they make.
-use Rattle.std.proofs.Common.{◌≡◌, ◌≤◌, ◌<◌, ◌+◌, ℕ, suc, zero, List, [], ◌∷◌, ◌++◌, Option, Some, None, Bool, true, false, cond, ◌&&◌, ◌||◌, nat_eq, take, slice_get, refl, sym, ap, ◌∙◌, subst, append-nil, append_assoc, arith, le_refl}
-use Rattle.std.proofs.lemmas.Bool.Decides.{nat_tests}
-use Rattle.std.specs.List.{list_all}
-use Rattle.ws_kinds.specs.declared.note.Why.{Why}
-use Rattle.ws_kinds.specs.ConfigValue.{ConfigValue}
+use Rattle.run_meaning.proofs.Below.{◌≡◌, ◌≤◌, ◌<◌, ◌+◌, ℕ, suc, zero, List, [], ◌∷◌, ◌++◌, Option, Some, None, Bool, true, false, cond, ◌&&◌, ◌||◌, nat_eq, take, slice_get, refl, sym, ap, ◌∙◌, subst, append-nil, append_assoc, arith, le_refl, nat_tests, list_all, Why, ConfigValue, NoteValue, OrderValue, send, subscribe, unsubscribe, publish, close, Item, is_gone_in, is_accepted, Server, Line, World, is_open, put, data_frame, obey, serve, perform, is_refused, line_after, Standing, standing_of, standings, is_away, asked, named, may_be_gone, Justified, by_reason, by_memory, by_gone, Step, by_note, by_order, notes_of, of_notes, standings_after, is_for, line_by_all, Answers, Performs, is_outgoing, for_reason, for_memory, serves, refuses, TopicsEnd, Covers, same, by_cases, clash}
 use Rattle.ws_kinds.specs.NoteValue as note
-use Rattle.ws_kinds.specs.NoteValue.{NoteValue}
-use Rattle.ws_kinds.specs.OrderValue.{OrderValue, send, subscribe, unsubscribe, publish, close}
-use Rattle.wire_meaning.specs.Answer.{Item}
-use Rattle.run_meaning.specs.Counts.{is_gone_in, is_accepted}
-use Rattle.run_meaning.specs.Server.{Server}
-use Rattle.run_meaning.specs.Lines.{Line, World, is_open, put, data_frame, obey, serve, perform, is_refused, line_after}
-use Rattle.run_meaning.specs.Orders.{Standing, standing_of, standings, is_away, asked, named, may_be_gone, Justified}
-use Rattle.run_meaning.specs.Orders.Justified.{by_reason, by_memory, by_gone}
 use Rattle.run_meaning.proofs.Parts.{gone-append}
 use Rattle.run_meaning.proofs.Serving.{is_within}
-use Rattle.run_meaning.specs.Steps.{Step, by_note, by_order, notes_of, of_notes, standings_after, is_for, line_by_all}
-use Rattle.run_meaning.specs.Performs.{Answers, Performs, is_outgoing}
-use Rattle.run_meaning.specs.Performs.MayRefuse.{for_reason, for_memory}
-use Rattle.run_meaning.specs.Performs.Answers.{serves, refuses}
-use Rattle.run_meaning.specs.Bridge.{TopicsEnd, Covers}
-use Rattle.run_meaning.specs.Bridge.Covers.{same, more}
-use Rattle.run_meaning.proofs.BoolLemmas.{by_cases, clash}
+use Rattle.run_meaning.specs.Bridge.Covers.{more}
 use Rattle.run_meaning.proofs.NoteLemmas.{outgoing_within, outgoing_no_name, notes_of-append, notes_of-notes, refused_then, refused_before, named_then, named_none, names_itself, names_now, all_then}
 use Rattle.run_meaning.proofs.LineLemmas.{lines_after, lines_after-append, notes_by, line_by_all-append, lines_put, lines_stay, lines_away, lines_gone}
 use Rattle.run_meaning.proofs.StepLemmas.{obey_not, obey_does, ends_obeys, ends_steps, shown_steps}

@@ -1,16 +1,7 @@
 -- A handler that echoes, and one connection by itself.
-use Rattle.std.proofs.Common.{◌≡◌, ℕ, List, [], ◌∷◌, ◌++◌, Bool, true, false, cond, ◌&&◌, not, refl, sym, ap, ◌∙◌, append-nil, append_assoc, nat_eq, arith}
-use Rattle.std.proofs.lemmas.Bool.Decides.{nat_tests}
-use Rattle.ws_kinds.specs.declared.kind.Kind.{Kind}
+use Rattle.run_meaning.proofs.Below.{◌≡◌, ℕ, List, [], ◌∷◌, ◌++◌, Bool, true, false, cond, ◌&&◌, not, refl, sym, ap, ◌∙◌, append-nil, append_assoc, nat_eq, arith, nat_tests, Kind, NoteValue, send, Item, reply, window, is_of, Line, World, step, run, first_world, world, noted, is_refused, obeyed, after_own, moved, route_after, appended, sends, put, data_frame, echo_server, echo_by, EchoLine, echo_view, echo_own, echo_after, echo_lines, echo_start, sent_back, same_number}
 use Rattle.ws_kinds.specs.NoteValue as note
-use Rattle.ws_kinds.specs.NoteValue.{NoteValue}
 use Rattle.ws_kinds.specs.EventValue as event
-use Rattle.ws_kinds.specs.EventValue.{EventValue, WhatValue}
-use Rattle.ws_kinds.specs.OrderValue.{send}
-use Rattle.wire_meaning.specs.Answer.{Item, reply}
-use Rattle.run_meaning.specs.Notes.{window, is_of}
-use Rattle.run_meaning.specs.Lines.{Line, World, step, run, first_world, world, noted, is_refused, obeyed, after_own, moved, route_after, appended, sends, put, data_frame}
-use Rattle.run_meaning.specs.Echo.{echo_server, echo_by, EchoLine, echo_view, echo_own, echo_after, echo_lines, echo_start, sent_back}
 use Rattle.run_meaning.proofs.Underway.{perform-line}
 
 -- the one order of a message, or none
@@ -22,9 +13,6 @@ obeyed_one u c d to k b true l = one (u 0)
     one : (r : Bool) → cond r l (cond (nat_eq to d) (put (data_frame k b ∷ []) l) l) ≡ cond (not r) (cond (nat_eq to d) (put (data_frame k b ∷ []) l) l) l
     one true = refl
     one false = refl
-
-same_number : (c d : ℕ) → nat_eq c d ≡ true → c ≡ d
-same_number c d e = grind (arith, nat_tests)
 
 module _ (replies : ℕ → List ℕ) (text : List ℕ) (d : ℕ) where
   -- a message of any connection: z says that it is this one's, t that its route is 0, r that its order is refused

@@ -10,12 +10,12 @@ pub mod Kept
 pub mod Replies
 pub mod EventLemmas
 pub mod Lives
+pub mod Answered
 pub mod Throughout
 pub mod Staying
 pub mod Following
 pub mod Leaving
 pub mod EchoLemmas
-pub mod BoolLemmas
 pub mod NoteLemmas
 pub mod LineLemmas
 pub mod StepLemmas
@@ -23,3 +23,5 @@ pub mod WhyLemmas
 pub mod BridgeLemmas
 pub mod OrderedLemmas
 pub mod TellLemmas
+pub mod Below
+pub mod All

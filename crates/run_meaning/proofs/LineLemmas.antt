@@ -1,20 +1,8 @@
 -- What notes within the orders of an event make of a line.
-use Rattle.std.proofs.Common.{◌≡◌, ℕ, List, [], ◌∷◌, ◌++◌, Option, Some, None, Bool, true, false, cond, ◌||◌, ◌+◌, refl, sym, ap, ◌∙◌, append-nil}
-use Rattle.std.specs.List.{list_all}
-use Rattle.ws_kinds.specs.declared.note.Phase.{Phase}
-use Rattle.ws_kinds.specs.declared.note.Phase.TheVariants.{Head, Open, Leaving, Ending, Gone}
+use Rattle.run_meaning.proofs.Below.{◌≡◌, ℕ, List, [], ◌∷◌, ◌++◌, Option, Some, None, Bool, true, false, cond, ◌||◌, ◌+◌, refl, sym, ap, ◌∙◌, append-nil, list_all, Phase, Head, Open, Leaving, Ending, Gone, NoteValue, Item, is_of, is_gone, is_gone_in, Server, Line, World, moved, leaves_open, topics_left, cause_of, route_after, param_after, is_frame, appended, after_own, line_after, noted, noted_all, put, obey, leaves_alone, is_away, Step, by_note, by_order, of_notes, line_by_all, by_cases, clash, and_left, and_right, or_right}
 use Rattle.ws_kinds.specs.NoteValue as note
-use Rattle.ws_kinds.specs.NoteValue.{NoteValue}
-use Rattle.wire_meaning.specs.Answer.{Item}
-use Rattle.run_meaning.specs.Notes.{is_of, is_gone}
-use Rattle.run_meaning.specs.Counts.{is_gone_in}
-use Rattle.run_meaning.specs.Server.{Server}
-use Rattle.run_meaning.specs.Lines.{Line, World, moved, leaves_open, topics_left, cause_of, route_after, param_after, is_frame, appended, after_own, line_after, noted, noted_all, put, obey, leaves_alone}
-use Rattle.run_meaning.specs.Orders.{is_away}
 use Rattle.run_meaning.proofs.Underway.{left_alone}
 use Rattle.run_meaning.proofs.Serving.{is_within, alone_unless_gone}
-use Rattle.run_meaning.specs.Steps.{Step, by_note, by_order, of_notes, line_by_all}
-use Rattle.run_meaning.proofs.BoolLemmas.{by_cases, clash, and_left, and_right, or_right}
 
 same_items : (xs ys zs : List Item) → zs ≡ [] → (xs ++ ys) ++ zs ≡ (xs ++ zs) ++ ys
 same_items xs ys zs e = ap (λ (z : List Item). (xs ++ ys) ++ z) e ∙ append-nil (xs ++ ys) ∙ ap (λ (z : List Item). z ++ ys) (sym (append-nil xs) ∙ ap (λ (z : List Item). xs ++ z) (sym e))

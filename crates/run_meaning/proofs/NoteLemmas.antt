@@ -1,18 +1,9 @@
 -- Notes of what became of octets that were to be sent, and lists of them.
-use Rattle.std.proofs.Common.{◌≡◌, ℕ, List, [], ◌∷◌, ◌++◌, Option, Some, None, Bool, true, false, cond, ◌&&◌, ◌||◌, nat_eq, refl, sym, ap, ◌∙◌, append-nil, arith}
-use Rattle.std.proofs.lemmas.Bool.Decides.{nat_tests}
-use Rattle.std.specs.List.{list_any, list_all}
-use Rattle.ws_kinds.specs.declared.note.Why.{Why}
+use Rattle.run_meaning.proofs.Below.{◌≡◌, ℕ, List, [], ◌∷◌, ◌++◌, Option, Some, None, Bool, true, false, cond, ◌&&◌, ◌||◌, nat_eq, refl, sym, ap, ◌∙◌, append-nil, arith, nat_tests, list_any, list_all, Why, NoteValue, is_event, is_unserved, is_naming, is_refused, named, named_by, Step, by_note, by_order, notes_of, of_notes, is_outgoing, clash, and_left, and_right, or_left, or_right}
 use Rattle.ws_kinds.specs.NoteValue as note
-use Rattle.ws_kinds.specs.NoteValue.{NoteValue}
-use Rattle.run_meaning.specs.Notes.{is_event, is_unserved}
-use Rattle.run_meaning.specs.Lines.{is_naming, is_refused}
-use Rattle.run_meaning.specs.Orders.{named, named_by}
 use Rattle.run_meaning.proofs.Parts.{list_any-append, list_all-append}
 use Rattle.run_meaning.proofs.Serving.{is_within}
-use Rattle.run_meaning.specs.Steps.{Step, by_note, by_order, notes_of, of_notes}
-use Rattle.run_meaning.specs.Performs.{is_outgoing}
-use Rattle.run_meaning.proofs.BoolLemmas.{clash, and_left, and_right, or_left, or_right}
+use Rattle.run_meaning.proofs.Ordering.{named_by-not as one_unnamed}
 
 -- ---- tests of notes
 
@@ -87,10 +78,6 @@ refused_before xs ys c i e = list_any-append (is_naming c i) xs ys ∙ ap (λ (z
     or_false : (b : Bool) → (b || false) ≡ b
     or_false true = refl
     or_false false = refl
-
-one_unnamed : (c i : ℕ) (n : NoteValue) (later : Option Why) → is_naming c i n ≡ false → named_by c i n later ≡ later
-one_unnamed c i (note.unserved d j w) later e = ap (λ (z : Bool). cond z (Some w) later) e
-one_unnamed c i _ later e = refl
 
 pub named_then : (xs ys : List NoteValue) (c i : ℕ) → is_refused xs c i ≡ false → named c i (xs ++ ys) ≡ named c i ys
 named_then [] ys c i e = refl

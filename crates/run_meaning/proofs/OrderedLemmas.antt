@@ -1,28 +1,11 @@
 -- After all orders of an event: what the notes say, and what the steps made.
-use Rattle.std.proofs.Common.{◌≡◌, ◌<◌, ◌≤◌, ◌+◌, ℕ, List, [], ◌∷◌, ◌++◌, Some, Bool, true, false, ◌&&◌, ◌||◌, nat_eq, length, take, refl, sym, ap, ◌∙◌, subst, zero-add, arith}
-use Rattle.std.proofs.lemmas.Bool.Decides.{nat_tests}
-use Rattle.std.specs.List.{list_any, list_all}
-use Rattle.ws_kinds.specs.declared.note.Why.{Why}
-use Rattle.ws_kinds.specs.ConfigValue.{ConfigValue}
+use Rattle.run_meaning.proofs.Below.{◌≡◌, ◌<◌, ◌≤◌, ◌+◌, ℕ, List, [], ◌∷◌, ◌++◌, Some, Bool, true, false, ◌&&◌, ◌||◌, nat_eq, length, take, refl, sym, ap, ◌∙◌, subst, zero-add, arith, nat_tests, list_any, list_all, Why, ConfigValue, NoteValue, EventValue, OrderValue, is_event, is_unserved, Server, Line, World, world, noted, noted_all, perform, is_refused, orders_of, Standing, standing_of, Ordered, Justified, event_at, at_order, Step, notes_of, standings_after, line_by_all, is_outgoing, Answers, Performs, serves, refuses, TopicsEnd, Covers, same, clash, or_left, or_right}
 use Rattle.ws_kinds.specs.NoteValue as note
-use Rattle.ws_kinds.specs.NoteValue.{NoteValue}
-use Rattle.ws_kinds.specs.EventValue.{EventValue}
-use Rattle.ws_kinds.specs.OrderValue.{OrderValue}
-use Rattle.run_meaning.specs.Notes.{is_event, is_unserved}
-use Rattle.run_meaning.specs.Server.{Server}
-use Rattle.run_meaning.specs.Lines.{Line, World, world, noted, noted_all, perform, is_refused, orders_of}
-use Rattle.run_meaning.specs.Orders.{Standing, standing_of, Ordered, Justified, event_at, at_order}
 use Rattle.run_meaning.proofs.Parts.{place_of}
 use Rattle.run_meaning.proofs.Parts.Placed.{early, late}
 use Rattle.run_meaning.proofs.Serving.{is_within}
 use Rattle.run_meaning.proofs.Underway.{underway_all, perform-state}
 use Rattle.run_meaning.proofs.Ordering.{ordered_event}
-use Rattle.run_meaning.specs.Steps.{Step, notes_of, standings_after, line_by_all}
-use Rattle.run_meaning.specs.Performs.{is_outgoing, Answers, Performs}
-use Rattle.run_meaning.specs.Performs.Answers.{serves, refuses}
-use Rattle.run_meaning.specs.Bridge.{TopicsEnd, Covers}
-use Rattle.run_meaning.specs.Bridge.Covers.{same}
-use Rattle.run_meaning.proofs.BoolLemmas.{clash, or_left, or_right}
 use Rattle.run_meaning.proofs.NoteLemmas.{outgoing_within, outgoing_no_order, outgoing_no_name, within_no_event, notes_of-append, notes_of-notes, refused_then, all_then}
 use Rattle.run_meaning.proofs.LineLemmas.{noted_line}
 use Rattle.run_meaning.proofs.BridgeLemmas.{Underway, covers_all, justified_all}

@@ -1,23 +1,7 @@
 -- What steps make of a line, of what shows of it to orders, and of its items.
-use Rattle.std.proofs.Common.{◌≡◌, ◌+◌, suc, length, ℕ, List, [], ◌∷◌, ◌++◌, Option, Some, None, Bool, true, false, cond, not, ◌&&◌, nat_eq, refl, sym, ap, ◌∙◌, subst, append-nil, append_assoc, arith}
-use Rattle.std.proofs.lemmas.Bool.Decides.{nat_tests}
-use Rattle.ws_kinds.specs.declared.note.Phase.{Phase}
-use Rattle.ws_kinds.specs.declared.note.Phase.TheVariants.{Head, Open, Leaving, Ending, Gone}
+use Rattle.run_meaning.proofs.Below.{◌≡◌, ◌+◌, suc, length, ℕ, List, [], ◌∷◌, ◌++◌, Option, Some, None, Bool, true, false, cond, not, ◌&&◌, nat_eq, refl, sym, ap, ◌∙◌, subst, append-nil, append_assoc, arith, nat_tests, Phase, Head, Open, Leaving, Ending, Gone, NoteValue, OrderValue, send, subscribe, unsubscribe, publish, close, Item, is_of, has_number, accepted_by, is_accepted, Server, Line, moved, closing, leaves_open, topics_left, is_open, has_topic, with_topic, without_topic, sends, appended, line_after, put, data_frame, closed_by_server, obey, Standing, unless_gone, standing_of, Step, by_note, by_order, notes_of, standing_by, standing_obeys, standing_after, standing_after_all, standings_after, is_for, frames_of, items_by, items_of, line_by, line_by_all, ConfigValue, Answers, Performs, TopicsEnd, by_cases, clash, or_left, or_right, same_number}
 use Rattle.ws_kinds.specs.NoteValue as note
-use Rattle.ws_kinds.specs.NoteValue.{NoteValue}
-use Rattle.ws_kinds.specs.OrderValue.{OrderValue, send, subscribe, unsubscribe, publish, close}
-use Rattle.wire_meaning.specs.Answer.{Item}
-use Rattle.run_meaning.specs.Notes.{is_of}
-use Rattle.run_meaning.specs.Counts.{has_number, accepted_by, is_accepted}
-use Rattle.run_meaning.specs.Server.{Server}
-use Rattle.run_meaning.specs.Lines.{Line, moved, closing, leaves_open, topics_left, is_open, has_topic, with_topic, without_topic, sends, appended, line_after, put, data_frame, closed_by_server, obey}
-use Rattle.run_meaning.specs.Orders.{Standing, unless_gone, standing_of}
 use Rattle.run_meaning.proofs.Parts.{accepted-append}
-use Rattle.run_meaning.specs.Steps.{Step, by_note, by_order, notes_of, standing_by, standing_obeys, standing_after, standing_after_all, standings_after, is_for, frames_of, items_by, items_of, line_by, line_by_all}
-use Rattle.ws_kinds.specs.ConfigValue.{ConfigValue}
-use Rattle.run_meaning.specs.Performs.{Answers, Performs}
-use Rattle.run_meaning.specs.Bridge.{TopicsEnd}
-use Rattle.run_meaning.proofs.BoolLemmas.{by_cases, clash, or_left, or_right}
 use Rattle.run_meaning.proofs.LineLemmas.{own_line, other_line, lines_after}
 
 -- ---- phases as they show
@@ -26,7 +10,7 @@ pub none_moves : (c : ℕ) (n : NoteValue) → has_number c (accepted_by n) ≡ 
 none_moves c (note.accepted d) e own = absurd (grind (arith, nat_tests))
 none_moves c _ e own = refl
 
-away_moves : (n : NoteValue) → moved (Some Gone) n ≡ Some Gone
+pub away_moves : (n : NoteValue) → moved (Some Gone) n ≡ Some Gone
 away_moves (note.gone d left) = refl
 away_moves _ = refl
 
@@ -39,7 +23,7 @@ moves_shown (Some Leaving) n e = refl
 moves_shown (Some Ending) n e = refl
 moves_shown (Some Gone) n e = ap unless_gone e ∙ sym (ap unless_gone (away_moves n))
 
-leaves_shown : (p : Option Phase) (n : NoteValue) → leaves_open (unless_gone p) (moved (unless_gone p) n) ≡ leaves_open p (moved p n)
+pub leaves_shown : (p : Option Phase) (n : NoteValue) → leaves_open (unless_gone p) (moved (unless_gone p) n) ≡ leaves_open p (moved p n)
 leaves_shown None n = refl
 leaves_shown (Some Head) n = refl
 leaves_shown (Some Open) n = refl
@@ -138,64 +122,37 @@ ends_obeys c d o l may ends = by_cases (is_for c d o l.topics)
     (λ off. subst (λ (z : Line). TopicsEnd z) (sym (obey_not c d o l off)) ends)
 
 reply_shown : (text other : List ℕ) (p : Option Phase) (c route : ℕ) (param : List ℕ) → text ≡ other → sends text p (note.opened c route param) ≡ sends other (unless_gone p) (note.opened c route param)
-reply_shown text other None c route param e = ap (λ (z : List ℕ). sends z None (note.opened c route param)) e
-reply_shown text other (Some Head) c route param e = ap (λ (z : List ℕ). sends z (Some Head) (note.opened c route param)) e
-reply_shown text other (Some Open) c route param e = ap (λ (z : List ℕ). sends z (Some Open) (note.opened c route param)) e
-reply_shown text other (Some Leaving) c route param e = ap (λ (z : List ℕ). sends z (Some Leaving) (note.opened c route param)) e
-reply_shown text other (Some Ending) c route param e = ap (λ (z : List ℕ). sends z (Some Ending) (note.opened c route param)) e
-reply_shown text other (Some Gone) c route param e = ap (λ (z : List ℕ). sends z None (note.opened c route param)) e
+reply_shown text other p c route param e = ap (λ (z : List ℕ). sends z p (note.opened c route param)) e
 
 abbrev is_opening : NoteValue → Bool
 is_opening (note.opened c route param) = true
 is_opening _ = false
 
+closed_shown : (text : List ℕ) (p : Option Phase) (c code : ℕ) (reason : List ℕ) → sends [] p (note.peer_close c code reason) ≡ sends text (unless_gone p) (note.peer_close c code reason)
+closed_shown text None c code reason = refl
+closed_shown text (Some Head) c code reason = refl
+closed_shown text (Some Open) c code reason = refl
+closed_shown text (Some Leaving) c code reason = refl
+closed_shown text (Some Ending) c code reason = refl
+closed_shown text (Some Gone) c code reason = refl
+
+failed_shown : (text : List ℕ) (p : Option Phase) (c code : ℕ) → sends [] p (note.failed c code) ≡ sends text (unless_gone p) (note.failed c code)
+failed_shown text None c code = refl
+failed_shown text (Some Head) c code = refl
+failed_shown text (Some Open) c code = refl
+failed_shown text (Some Leaving) c code = refl
+failed_shown text (Some Ending) c code = refl
+failed_shown text (Some Gone) c code = refl
+
 -- only the note of an opening sends the text
 sends_shown : (text : List ℕ) (p : Option Phase) (n : NoteValue) → is_opening n ≡ false → sends [] p n ≡ sends text (unless_gone p) n
-sends_shown text None (note.opened c route param) e = clash true e refl
-sends_shown text None (note.head c status) e = refl
-sends_shown text None (note.ping_got c body) e = refl
-sends_shown text None (note.pinged c) e = refl
-sends_shown text None (note.peer_close c code reason) e = refl
-sends_shown text None (note.failed c code) e = refl
-sends_shown text None _ e = refl
-sends_shown text (Some Head) (note.opened c route param) e = clash true e refl
-sends_shown text (Some Head) (note.head c status) e = refl
-sends_shown text (Some Head) (note.ping_got c body) e = refl
-sends_shown text (Some Head) (note.pinged c) e = refl
-sends_shown text (Some Head) (note.peer_close c code reason) e = refl
-sends_shown text (Some Head) (note.failed c code) e = refl
-sends_shown text (Some Head) _ e = refl
-sends_shown text (Some Open) (note.opened c route param) e = clash true e refl
-sends_shown text (Some Open) (note.head c status) e = refl
-sends_shown text (Some Open) (note.ping_got c body) e = refl
-sends_shown text (Some Open) (note.pinged c) e = refl
-sends_shown text (Some Open) (note.peer_close c code reason) e = refl
-sends_shown text (Some Open) (note.failed c code) e = refl
-sends_shown text (Some Open) _ e = refl
-sends_shown text (Some Leaving) (note.opened c route param) e = clash true e refl
-sends_shown text (Some Leaving) (note.head c status) e = refl
-sends_shown text (Some Leaving) (note.ping_got c body) e = refl
-sends_shown text (Some Leaving) (note.pinged c) e = refl
-sends_shown text (Some Leaving) (note.peer_close c code reason) e = refl
-sends_shown text (Some Leaving) (note.failed c code) e = refl
-sends_shown text (Some Leaving) _ e = refl
-sends_shown text (Some Ending) (note.opened c route param) e = clash true e refl
-sends_shown text (Some Ending) (note.head c status) e = refl
-sends_shown text (Some Ending) (note.ping_got c body) e = refl
-sends_shown text (Some Ending) (note.pinged c) e = refl
-sends_shown text (Some Ending) (note.peer_close c code reason) e = refl
-sends_shown text (Some Ending) (note.failed c code) e = refl
-sends_shown text (Some Ending) _ e = refl
-sends_shown text (Some Gone) (note.opened c route param) e = clash true e refl
-sends_shown text (Some Gone) (note.head c status) e = refl
-sends_shown text (Some Gone) (note.ping_got c body) e = refl
-sends_shown text (Some Gone) (note.pinged c) e = refl
-sends_shown text (Some Gone) (note.peer_close c code reason) e = refl
-sends_shown text (Some Gone) (note.failed c code) e = refl
-sends_shown text (Some Gone) _ e = refl
-
-pub same_number : (c d : ℕ) → nat_eq c d ≡ true → c ≡ d
-same_number c d e = grind (arith, nat_tests)
+sends_shown text p (note.opened c route param) e = clash true e refl
+sends_shown text p (note.head c status) e = refl
+sends_shown text p (note.ping_got c body) e = refl
+sends_shown text p (note.pinged c) e = refl
+sends_shown text p (note.peer_close c code reason) e = closed_shown text p c code reason
+sends_shown text p (note.failed c code) e = failed_shown text p c code
+sends_shown text p _ e = refl
 
 module _ {S : Type 0} (s : Server S) where
   appended_shown : (d : ℕ) (p : Option Phase) (n : NoteValue) → is_of d n ≡ true → appended s p n ≡ sends (s.reply d) (unless_gone p) n

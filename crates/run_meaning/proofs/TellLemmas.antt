@@ -1,7 +1,5 @@
 -- What stands to be told after more notes.
-use Rattle.std.proofs.Common.{◌≡◌, ℕ, List, [], ◌∷◌, ◌++◌, refl}
-use Rattle.ws_kinds.specs.NoteValue.{NoteValue}
-use Rattle.run_meaning.specs.Tell.{Tell, tell_by, tell_by_all}
+use Rattle.run_meaning.proofs.Below.{◌≡◌, ℕ, List, [], ◌∷◌, ◌++◌, refl, NoteValue, Tell, tell_by, tell_by_all}
 
 pub all_then : (c : ℕ) (xs ys : List NoteValue) (t : Tell) → tell_by_all c (xs ++ ys) t ≡ tell_by_all c ys (tell_by_all c xs t)
 all_then c [] ys t = refl

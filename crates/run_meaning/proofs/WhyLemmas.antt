@@ -1,18 +1,6 @@
 -- Reasons for which orders are not served, by the connections that they ask for.
-use Rattle.std.proofs.Common.{◌≡◌, ◌⊎◌, inl, inr, ℕ, List, [], ◌∷◌, Option, Some, None, Bool, true, false, not, ◌&&◌, nat_eq, nat_lt, nat_le, length, refl, sym, ap, ◌∙◌}
-use Rattle.ws_kinds.specs.declared.kind.Kind.{Kind}
-use Rattle.ws_kinds.specs.declared.note.Phase.{Phase}
-use Rattle.ws_kinds.specs.declared.note.Phase.TheVariants.{Head, Open, Leaving, Ending, Gone}
-use Rattle.ws_kinds.specs.declared.note.Why.{Why}
-use Rattle.ws_kinds.specs.declared.note.Why.TheVariants.{Absent, NotOpen, TooBig, BadText, BadTopic, Forbidden, TooMany, BadCode}
-use Rattle.ws_kinds.specs.ConfigValue.{ConfigValue}
-use Rattle.ws_kinds.specs.OrderValue.{OrderValue, send, subscribe, unsubscribe, publish, close}
-use Rattle.run_meaning.specs.Lines.{Line, is_open, has_topic}
-use Rattle.run_meaning.specs.Orders.{Standing, unless_gone, standing_of, is_away, is_bad_text, is_bad_topic, is_bad_close, first_reason, why_send, why_subscribe, why_unsubscribe, why_close, why_at, needs_memory, asked, may_be_gone}
-use Rattle.run_meaning.specs.Steps.{is_for}
-use Rattle.run_meaning.specs.Bridge.{TopicsEnd}
-use Rattle.run_meaning.proofs.BoolLemmas.{by_cases, clash, and_right}
-use Rattle.run_meaning.proofs.StepLemmas.{open_shown, same_number}
+use Rattle.run_meaning.proofs.Below.{◌≡◌, ◌⊎◌, inl, inr, ℕ, List, [], ◌∷◌, Option, Some, None, Bool, true, false, not, ◌&&◌, nat_eq, nat_lt, nat_le, length, refl, sym, ap, ◌∙◌, Kind, Phase, Head, Open, Leaving, Ending, Gone, Why, Absent, NotOpen, TooBig, BadText, BadTopic, Forbidden, TooMany, BadCode, ConfigValue, OrderValue, send, subscribe, unsubscribe, publish, close, Line, is_open, has_topic, Standing, unless_gone, standing_of, is_away, is_bad_text, is_bad_topic, is_bad_close, first_reason, why_send, why_subscribe, why_unsubscribe, why_close, why_at, needs_memory, asked, may_be_gone, is_for, TopicsEnd, by_cases, clash, and_right, same_number}
+use Rattle.run_meaning.proofs.StepLemmas.{open_shown}
 
 pub away_not_open : (p : Option Phase) → is_away p ≡ true → is_open p ≡ false
 away_not_open None e = refl

@@ -18,3 +18,4 @@ pub mod Tell
 pub mod Quiet
 pub mod Echo
 pub mod View
+pub mod All

@@ -11,7 +11,7 @@ ghost use Rattle.run_meaning.specs.View.{item_value, item_list, item_values, lin
 
 use std::alloc::{AllocError, Global};
 use upgrade_head::refusal;
-use wire_meaning::Opcode;
+use wire_meaning::{Opcode, close_body};
 use ws_kinds::{Bytes, Conn, Note, Phase, Recorder};
 
 /// What is sent to a connection, piece by piece, with its own octets.
@@ -84,7 +84,7 @@ fn is_naming(note: &Note<'_>, conn: Conn, order: u8) -> bool
     }
 }
 
-// Whether the notes behind an event's note say that one of its orders was not served.
+/// Whether the notes behind an event's note say that one of its orders was not served.
 fn is_refused(notes: &[Note<'_>], conn: Conn, order: u8) -> bool
     ensures { result ≡ lines.is_refused (single.window (map note_value notes.now)) conn.0 order }
 {
@@ -140,13 +140,10 @@ fn refusal_item(alloc: Global, status: u16) -> Result<OwnedItem, AllocError>
 fn close_item(alloc: Global, code: u16) -> Result<OwnedItem, AllocError>
     ensures { IfOk result (λ item. item_value item ≡ answer.close_item code) }
 {
-    if code == 1005 {
-        return Ok(OwnedItem::Whole(Opcode::Close, Bytes::of(alloc, &[])?));
-    }
-    Ok(OwnedItem::Whole(Opcode::Close, Bytes::of(alloc, &code.to_be_bytes())?))
+    Ok(OwnedItem::Whole(Opcode::Close, Bytes::of(alloc, &close_body(code))?))
 }
 
-// What a note appends to its connection, which is in this phase; `reply` is the text that answers its request head.
+/// What a note appends to its connection, which is in this phase; `reply` is the text that answers its request head.
 fn sends(
     alloc: Global,
     phase: Option<Phase>,
@@ -169,7 +166,7 @@ fn sends(
     }
 }
 
-// The message that is sent back on this route, unless its order is refused.
+/// The message that is sent back on this route, unless its order is refused.
 fn sent_back(
     alloc: Global,
     route: u8,
@@ -197,7 +194,7 @@ fn push(items: &mut Vec<OwnedItem>, item: Option<OwnedItem>) -> Result<(), Alloc
 }
 
 impl PlainLine {
-    // Takes in a note of this connection.
+    /// Takes in a note of this connection.
     fn take(
         &mut self,
         alloc: Global,
@@ -217,7 +214,7 @@ impl PlainLine {
         Ok(())
     }
 
-    // Takes in any note, which the notes `behind` follow, where this is connection `conn`.
+    /// Takes in any note, which the notes `behind` follow, where this is connection `conn`.
     fn take_any(
         &mut self,
         alloc: Global,
@@ -236,7 +233,7 @@ impl PlainLine {
     }
 }
 
-// The notes behind a place.
+/// The notes behind a place.
 fn behind<'a, 'n>(notes: &'a [Note<'n>], place: usize) -> &'a [Note<'n>]
     requires { place < length notes.now }
     ensures { result.now ≡ drop (place + 1) notes.now }

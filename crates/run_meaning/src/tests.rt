@@ -223,6 +223,171 @@ fn orders_that_are_not_served(rt: HostRuntime) -> Result<(), Fail> {
     Ok(())
 }
 
+/// How a connection stands to Open: before it, in it, or out of it with this code, of which the handler was not told or was told.
+#[derive(Clone, Copy, PartialEq, Eq)]
+enum Stands {
+    Before,
+    Open,
+    Left(u16),
+    Told,
+}
+
+/// A connection after a note of its own, where the handler closes nobody.
+fn stands_after(stands: Stands, note: &Note<'_>) -> Stands {
+    match stands {
+        Stands::Before => match *note {
+            Note::Opened { .. } => Stands::Open,
+            _ => Stands::Before,
+        },
+        Stands::Open => match *note {
+            Note::PeerClose { code, .. } => Stands::Left(code),
+            Note::Failed { code, .. } => Stands::Left(code),
+            Note::Gone { .. } => Stands::Left(1006),
+            _ => Stands::Open,
+        },
+        Stands::Left(code) => match *note {
+            Note::Closed { .. } => Stands::Told,
+            _ => Stands::Left(code),
+        },
+        Stands::Told => Stands::Told,
+    }
+}
+
+/// Whether a note is timely where the connection stands so: nothing comes from outside before the handler was told that it left Open,
+/// and a Closed event has the code with which it did, and comes once.
+fn is_timely(stands: Stands, note: &Note<'_>) -> bool {
+    match *note {
+        Note::Accepted(_) | Note::Busy(_) | Note::NoRoom(_) => !matches!(stands, Stands::Left(_)),
+        Note::Given { .. } | Note::Tick => !matches!(stands, Stands::Left(_)),
+        Note::Closed { code, .. } => stands == Stands::Left(code),
+        _ => true,
+    }
+}
+
+/// The place of the first note that is not timely. Notes that name a connection are of one, but for arrivals.
+fn first_untimely(notes: &[Note<'_>]) -> Option<usize> {
+    let mut stands = Stands::Before;
+    for place in 0..notes.len() {
+        if !is_timely(stands, &notes[place]) {
+            return Some(place);
+        }
+        stands = stands_after(stands, &notes[place]);
+    }
+    None
+}
+
+/// The place of the first row that is answered otherwise.
+fn other_place(rows: &[([Note<'static>; 6], Option<usize>)]) -> Option<usize> {
+    for (place, (notes, wanted)) in rows.iter().enumerate() {
+        if first_untimely(notes) != *wanted {
+            return Some(place);
+        }
+    }
+    None
+}
+
+fn closed(code: u16) -> Note<'static> {
+    Note::Closed {
+        conn: ONE,
+        code,
+        reason: b"",
+    }
+}
+
+/// The handler is told of an end before anything further comes from outside, once, with its code, and not before the end.
+#[test]
+fn closed_events_in_time(rt: HostRuntime) -> Result<(), Fail> {
+    let left = Note::Gone {
+        conn: ONE,
+        left: Left::LinkFailed,
+    };
+    let given = Note::Given {
+        conn: ONE,
+        count: 1,
+    };
+    let rows = [
+        (
+            [
+                Note::Accepted(ONE),
+                given,
+                opened(ONE, 0),
+                left,
+                closed(1006),
+                Note::Tick,
+            ],
+            None,
+        ),
+        (
+            [
+                Note::Accepted(ONE),
+                given,
+                opened(ONE, 0),
+                left,
+                Note::Tick,
+                closed(1006),
+            ],
+            Some(4),
+        ),
+        (
+            [
+                Note::Accepted(ONE),
+                given,
+                opened(ONE, 0),
+                left,
+                Note::Busy(TWO),
+                closed(1006),
+            ],
+            Some(4),
+        ),
+        (
+            [
+                Note::Accepted(ONE),
+                given,
+                opened(ONE, 0),
+                left,
+                Note::Turn,
+                given,
+            ],
+            Some(5),
+        ),
+        (
+            [
+                Note::Accepted(ONE),
+                given,
+                opened(ONE, 0),
+                closed(1006),
+                left,
+                Note::Turn,
+            ],
+            Some(3),
+        ),
+        (
+            [
+                Note::Accepted(ONE),
+                given,
+                opened(ONE, 0),
+                left,
+                closed(1000),
+                Note::Turn,
+            ],
+            Some(4),
+        ),
+        (
+            [
+                Note::Accepted(ONE),
+                given,
+                opened(ONE, 0),
+                left,
+                closed(1006),
+                closed(1006),
+            ],
+            Some(5),
+        ),
+    ];
+    assert!(rt; other_place(&rows).is_none());
+    Ok(())
+}
+
 /// The laws hold for a handler.
 #[test]
 fn laws_of_a_handler(rt: HostRuntime) -> Result<(), Fail> {
@@ -248,6 +413,7 @@ fn laws_of_a_handler(rt: HostRuntime) -> Result<(), Fail> {
     serving_ends::<Silent>();
     orders_stay_served::<Silent>();
     lived_stays::<Silent>();
+    request_answered::<Silent>();
     carried_stays::<Silent>();
     lived_throughout::<Silent>();
     replies_of_opened::<Silent>();

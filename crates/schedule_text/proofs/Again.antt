@@ -1,15 +1,6 @@
 -- What is printed is read again.
-use Rattle.std.proofs.Common.{◌≡◌, ◌^◌, ◌&&◌, ℕ, true, leb, ltb, List, [], ◌∷◌, ◌++◌, Some, None, length, refl, sym, Option, Result, Ok, Err, subst, inl, inr}
-use Rattle.std.specs.Prelude.{IfSome}
-use Rattle.std.specs.Result.{result_ok}
-use Rattle.std.specs.List.{AllByRecursion}
-use Rattle.std.proofs.lemmas.Bool.{and_parts, leb-true, ltb-true}
-use Rattle.mem_net.specs.Schedule.{is_number, is_plain, is_rising, can_send, is_sound, is_sound_after, are_sound_after}
-use Rattle.link_trait.specs.declared.act.Act.{Act}
+use Rattle.schedule_text.proofs.Below.{◌≡◌, ◌^◌, ◌&&◌, ℕ, true, leb, ltb, List, [], ◌∷◌, ◌++◌, Some, None, length, refl, sym, Option, Result, Ok, Err, subst, inl, inr, IfSome, result_ok, AllByRecursion, and_parts, leb-true, ltb-true, is_number, is_plain, is_rising, can_send, is_sound, is_sound_after, are_sound_after, Act, ReadFault, IsNumber, SendsOctets, HasLine, schedule_text, IsReadAgain, IsText, IsUnlessMemory}
 use Rattle.link_trait.specs.declared.act.Act.TheVariants as act
-use Rattle.schedule_text.specs.declared.fault.ReadFault.{ReadFault}
-use Rattle.schedule_text.specs.Spelling.{IsNumber, SendsOctets, HasLine, schedule_text}
-use Rattle.schedule_text.specs.Reading.{IsReadAgain, IsText, IsUnlessMemory}
 use Rattle.schedule_text.proofs.Followed.{clash}
 
 number_from : (conn : ℕ) → is_number conn ≡ true → IsNumber conn

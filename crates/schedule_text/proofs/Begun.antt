@@ -1,30 +1,19 @@
 -- Schedules of which some lines were read.
-use Rattle.std.proofs.Common.{◌≡◌, ℕ, ◌+◌, ◌^◌, ◌<◌, ◌&&◌, Bool, true, false, not, cond, ltb, leb, List, [], ◌∷◌, ◌++◌, Option, Some, None, length, refl, sym, ap, subst, ◌∙◌, append_assoc, arith}
-use Rattle.std.specs.List.{flat_map, AllByRecursion}
-use Rattle.std.proofs.lemmas.List.{append-nil, length-append}
-use Rattle.std.proofs.lemmas.Bool.{lt-ltb, le-leb}
-use Rattle.mem_net.specs.Schedule.{is_number, is_rising, has_arrived, has_ended, can_send, is_sound_after, are_sound_after}
-use Rattle.link_trait.specs.declared.act.Act.{Act}
+use Rattle.schedule_text.proofs.Below.{◌≡◌, ℕ, ◌+◌, ◌^◌, ◌<◌, ◌&&◌, Bool, true, false, not, cond, ltb, leb, List, [], ◌∷◌, ◌++◌, Option, Some, None, length, refl, sym, ap, subst, ◌∙◌, append_assoc, arith, flat_map, AllByRecursion, append-nil, length-append, lt-ltb, le-leb, both, is_number, is_rising, has_arrived, has_ended, can_send, is_sound_after, are_sound_after, Act, Fault, spelled, header, schedule_text, HasLine, IsNumber, Takes, act_at, sending_fault, fault_after, Breaks, Begins, IsRefused}
 use Rattle.link_trait.specs.declared.act.Act.TheVariants as act
-use Rattle.schedule_text.specs.declared.fault.Fault.{Fault}
 use Rattle.schedule_text.specs.declared.fault.Fault.TheVariants as fault
-use Rattle.schedule_text.specs.Spelling.{spelled, header, schedule_text, HasLine, IsNumber}
-use Rattle.schedule_text.specs.Front.{Takes, act_at}
-use Rattle.schedule_text.specs.Reading.{sending_fault, fault_after, Breaks, Begins, IsRefused}
 use Rattle.schedule_text.proofs.Lines.{act_takes, act_again}
 use Rattle.schedule_text.proofs.Followed.{and_true, and_assoc, clash, rises}
 use Rattle.schedule_text.proofs.Outputs.{flat_map_more}
+use Rattle.schedule_text.proofs.Numbers.{some_is as some_same}
 
 pub none_is : (x : Act × List ℕ) → Some x ≡ None → ⊥
 none_is x e = cc
 
-some_fault : (f g : Fault) → Some f ≡ Some g → f ≡ g
+pub some_fault : (f g : Fault) → Some f ≡ Some g → f ≡ g
 some_fault f g e = cc
 
 -- ---- sound acts and their faults
-
-both : (a b : Bool) → a ≡ true → b ≡ true → (a && b) ≡ true
-both a b h k = rw (h, k) refl
 
 number_is : (conn : ℕ) → IsNumber conn → is_number conn ≡ true
 number_is conn h = both (leb 1 conn) (ltb conn (2 ^ 32)) (le-leb _ _ h.0) (lt-ltb _ _ h.1)
@@ -141,9 +130,6 @@ broken_line octets acts rest act after f h e k =
 pair_with : {A : Type 0} → List ℕ → A → Option (A × List ℕ)
 pair_with new x = Some (x, new)
 
-some_same : {A : Type 0} (y x : A) → Some y ≡ Some x → y ≡ x
-some_same y x e = cc
-
 pub taken_some : {A : Type 0} (new : List ℕ) (given : Option A) (front : Option (A × List ℕ)) (x : A) → Takes new given front → given ≡ Some x → front ≡ Some (x, new)
 unfolding pair_with
 taken_some new (Some y) front x h e = h ∙ ap (pair_with new) (some_same y x e)
@@ -158,7 +144,7 @@ none_from (Some y) not = absurd (not y refl)
 none_from None not = refl
 
 -- a line takes at least one octet
-spelled_some : (act : Act) → 0 < length (spelled act)
+pub spelled_some : (act : Act) → 0 < length (spelled act)
 spelled_some (act.Arrive conn None) = omega arith
 spelled_some (act.Arrive conn (Some credit)) = omega arith
 spelled_some (act.Octets conn octets) = omega arith

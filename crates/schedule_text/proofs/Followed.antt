@@ -1,17 +1,7 @@
 -- One more act, and what is kept of the acts so far.
-use Rattle.std.proofs.Common.{◌≡◌, ℕ, ◌<◌, ◌≤◌, ◌&&◌, ◌||◌, Bool, true, false, not, cond, eqb, ltb, List, [], ◌∷◌, ◌++◌, Option, Some, None, refl, sym, ap, subst, ◌∙◌, arith}
-use Rattle.std.specs.List.{list_all, list_any}
-use Rattle.std.proofs.lemmas.Bool.{eqb-true, and_parts, lt-ltb, le-ltb}
-use Rattle.std.proofs.lemmas.Bool.Decides.{nat_tests}
-use Rattle.mem_net.specs.Schedule.{is_below, is_arrival, is_ending, is_rising, has_arrived, has_ended}
-use Rattle.link_trait.specs.declared.act.Act.{Act}
+use Rattle.schedule_text.proofs.Below.{◌≡◌, ℕ, ◌<◌, ◌≤◌, ◌&&◌, ◌||◌, Bool, true, false, not, cond, eqb, ltb, List, [], ◌∷◌, ◌++◌, Option, Some, None, refl, sym, ap, subst, ◌∙◌, arith, list_all, list_any, eqb-true, and_parts, lt-ltb, le-ltb, nat_tests, is_below, is_arrival, is_ending, is_rising, has_arrived, has_ended, Act, Conn, Fault, Arrivals, rising_fault, sending_fault, Arrives, Ends, Follows, rising_is_new, or_false}
 use Rattle.link_trait.specs.declared.act.Act.TheVariants as act
-use Rattle.ws_kinds.specs.declared.conn.Conn.{Conn}
-use Rattle.schedule_text.specs.declared.fault.Fault.{Fault}
 use Rattle.schedule_text.specs.declared.fault.Fault.TheVariants as fault
-use Rattle.schedule_text.specs.declared.arrivals.Arrivals.{Arrivals}
-use Rattle.schedule_text.specs.Reading.{rising_fault, sending_fault}
-use Rattle.schedule_text.specs.Arrivals.{Arrives, Ends, Follows}
 
 pub clash : true ≡ false → ⊥
 clash e = cc
@@ -21,10 +11,6 @@ clash e = cc
 pub and_true : (b : Bool) → (b && true) ≡ b
 and_true true = refl
 and_true false = refl
-
-or_false : (b : Bool) → (b || false) ≡ b
-or_false true = refl
-or_false false = refl
 
 pub and_assoc : (a b c : Bool) → (a && (b && c)) ≡ (a && b && c)
 and_assoc true b c = refl
@@ -41,23 +27,6 @@ all_more test (y ∷ xs) x = ap (λ (b : Bool). test y && b) (all_more test xs x
 any_more : {X : Type 0} (test : X → Bool) (xs : List X) (x : X) → list_any test (xs ++ x ∷ []) ≡ (list_any test xs || test x)
 any_more test [] x = or_false (test x)
 any_more test (y ∷ xs) x = ap (λ (b : Bool). test y || b) (any_more test xs x) ∙ or_assoc (test y) (list_any test xs) (test x)
-
--- a number that is greater than all before is new
-new_one : (conn : ℕ) (act : Act) → is_below conn act ≡ true → is_arrival conn act ≡ false
-new_one conn (act.Arrive other credit) h = grind (arith, nat_tests)
-new_one conn (act.Octets other octets) h = refl
-new_one conn (act.End other) h = refl
-new_one conn (act.ReadFails other) h = refl
-new_one conn (act.Room other more) h = refl
-new_one conn (act.WriteFails other) h = refl
-new_one conn act.Tick h = refl
-new_one conn act.Turn h = refl
-
-rising_is_new : (acts : List Act) (conn : ℕ) → is_rising acts conn ≡ true → has_arrived acts conn ≡ false
-rising_is_new [] conn h = refl
-rising_is_new (act ∷ acts) conn h =
-    let parts = and_parts (is_below conn act) (is_rising acts conn) h in
-    rw (new_one conn act parts.0, rising_is_new acts conn parts.1) refl
 
 -- ---- an arrival
 

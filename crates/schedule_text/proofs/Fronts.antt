@@ -1,15 +1,5 @@
 -- What stands at the front of octets.
-use Rattle.std.proofs.Common.{◌≡◌, ℕ, suc, ◌+◌, ◌<◌, ◌≤◌, Bool, true, false, not, cond, List, [], ◌∷◌, Some, None, length, take, refl, ◌∙◌, arith, ltb, add_comm, add-one}
-use Rattle.std.specs.Char.{is_ascii_digit, digit_value}
-use Rattle.std.specs.List.{position, position_or_len}
-use Rattle.std.specs.Prelude.{MatchResult, IsUtf8, Result, Ok, Err}
-use Rattle.std.specs.Result.{result_ok}
-use Rattle.std.proofs.lemmas.Bool.{ltb-false}
-use Rattle.std.proofs.lemmas.Bool.Decides.{nat_tests}
-use Rattle.std.proofs.lemmas.Fmt.{IsAscii-from_digits}
-use Rattle.std.proofs.lemmas.Str.{IsUtf8-from_ascii}
-use Rattle.std.specs.Str.Parse.{AllDigits}
-use Rattle.schedule_text.specs.Front.{digit_count}
+use Rattle.schedule_text.proofs.Below.{◌≡◌, ℕ, suc, ◌+◌, ◌<◌, ◌≤◌, Bool, true, false, not, cond, List, [], ◌∷◌, Some, None, length, take, refl, ◌∙◌, arith, ltb, add_comm, add-one, is_ascii_digit, digit_value, position, position_or_len, MatchResult, IsUtf8, Result, Ok, Err, result_ok, ltb-false, nat_tests, IsAscii-from_digits, IsUtf8-from_ascii, AllDigits, digit_count}
 
 -- digits are text
 pub text_is_read : {T E : Type 0} (digits : List ℕ) (r : Result T E) (P : T → Type 0) (Q : E → Type 0) → AllDigits 10 digits → MatchResult r P (λ e. ¬ (IsUtf8 digits) × Q e) → result_ok r ≡ None → ⊥

@@ -1,9 +1,5 @@
 -- Hexadecimal digits at the front of octets: what is read is written so, and what is written so is read.
-use Rattle.std.proofs.Common.{◌≡◌, ℕ, ◌+◌, ◌*◌, ◌/◌, ◌%◌, ◌<◌, List, [], ◌∷◌, ◌++◌, Option, Some, None, refl, ap, ◌∙◌, arith}
-use Rattle.std.specs.List.{AllByRecursion}
-use Rattle.std.proofs.lemmas.Bool.Decides.{nat_tests}
-use Rattle.schedule_text.specs.Line.{hex, hex_digit}
-use Rattle.schedule_text.specs.Front.{◌>>=◌, hex_value, pair_value, pairs_at, pairs_with}
+use Rattle.schedule_text.proofs.Below.{◌≡◌, ℕ, ◌+◌, ◌*◌, ◌/◌, ◌%◌, ◌<◌, List, [], ◌∷◌, ◌++◌, Option, Some, None, refl, ap, ◌∙◌, arith, AllByRecursion, nat_tests, hex, hex_digit, ◌>>=◌, hex_value, pair_value, pairs_at, pairs_with}
 use Rattle.schedule_text.proofs.Numbers.{bind_some, some_is}
 
 value_takes : (digit value : ℕ) → hex_value digit ≡ Some value → (digit ≡ hex_digit value) × (value < 16)

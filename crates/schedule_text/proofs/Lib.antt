@@ -9,3 +9,5 @@ pub mod Begun
 pub mod Unique
 pub mod Again
 pub mod Reported
+pub mod Below
+pub mod All

@@ -1,14 +1,6 @@
 -- Lines at the front of octets: what is read is written so, and what is written so is read.
-use Rattle.std.proofs.Common.{◌≡◌, ℕ, ◌<◌, ◌≤◌, ◌&&◌, Bool, true, false, cond, eqb, leb, List, [], ◌∷◌, ◌++◌, Option, Some, None, length, decimal, refl, sym, ap, subst, ◌∙◌, append_assoc, arith}
-use Rattle.std.specs.List.{AllByRecursion}
-use Rattle.std.proofs.lemmas.Bool.{leb-true, le-leb, eqb-true, and_parts}
-use Rattle.std.proofs.lemmas.Bool.Decides.{nat_tests}
-use Rattle.ws_kinds.specs.declared.conn.Conn.{Conn}
-use Rattle.link_trait.specs.declared.act.Act.{Act}
+use Rattle.schedule_text.proofs.Below.{◌≡◌, ℕ, ◌<◌, ◌≤◌, ◌&&◌, Bool, true, false, cond, eqb, leb, List, [], ◌∷◌, ◌++◌, Option, Some, None, length, decimal, refl, sym, ap, subst, ◌∙◌, append_assoc, arith, AllByRecursion, leb-true, le-leb, eqb-true, and_parts, nat_tests, Conn, Act, hex, spelled, HasLine, IsNumber, ◌>>=◌, octet_at, number_at, conn_at, sent_at, pairs_at, named_at, arrival_at, octets_at, alone_at, with_conn, act_at}
 use Rattle.link_trait.specs.declared.act.Act.TheVariants as act
-use Rattle.schedule_text.specs.Line.{hex}
-use Rattle.schedule_text.specs.Spelling.{spelled, HasLine, IsNumber}
-use Rattle.schedule_text.specs.Front.{◌>>=◌, octet_at, number_at, conn_at, sent_at, pairs_at, named_at, arrival_at, octets_at, alone_at, with_conn, act_at}
 use Rattle.schedule_text.proofs.Numbers.{bind_some, chosen_some, chosen_other, some_is, octet_takes, number_takes, number_again, ends_number}
 use Rattle.schedule_text.proofs.Hex.{pairs_take, pairs_again}
 

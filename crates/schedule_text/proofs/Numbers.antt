@@ -1,13 +1,5 @@
 -- Numbers at the front of octets: what is read is written so, and what is written so is read.
-use Rattle.std.proofs.Common.{◌≡◌, ℕ, suc, zero, ◌+◌, ◌^◌, ◌<◌, Bool, true, false, not, cond, eqb, ltb, List, [], ◌∷◌, ◌++◌, Option, Some, None, length, get_or, take, drop, decimal, refl, sym, ap, subst, ◌∙◌, arith}
-use Rattle.std.specs.Char.{is_ascii_digit, digit_value}
-use Rattle.std.specs.Str.Parse.{AllDigits, digits_value}
-use Rattle.std.proofs.lemmas.Str.Parse.{IsNumeralModel, numerals_by_value, tells_digits, digit_from_value}
-use Rattle.std.proofs.lemmas.Fmt.{decimal-digits_value, digits_decimal, digits_value-decimal, decimal_nonempty, first_decimal, decimal_digit}
-use Rattle.std.proofs.lemmas.List.{take-append-drop, take_at, drop_at}
-use Rattle.std.proofs.lemmas.Bool.{ltb-true, lt-ltb, eqb-true}
-use Rattle.std.proofs.lemmas.Bool.Decides.{nat_tests}
-use Rattle.schedule_text.specs.Front.{◌>>=◌, octet_at, digit_count, has_no_leading_zero, value_of, number_of, number_at}
+use Rattle.schedule_text.proofs.Below.{◌≡◌, ℕ, suc, zero, ◌+◌, ◌^◌, ◌<◌, Bool, true, false, not, cond, eqb, ltb, List, [], ◌∷◌, ◌++◌, Option, Some, None, length, get_or, take, drop, decimal, refl, sym, ap, subst, ◌∙◌, arith, is_ascii_digit, digit_value, AllDigits, digits_value, IsNumeralModel, numerals_by_value, tells_digits, digit_from_value, decimal-digits_value, digits_decimal, digits_value-decimal, decimal_nonempty, first_decimal, decimal_digit, take-append-drop, take_at, drop_at, ltb-true, lt-ltb, eqb-true, nat_tests, ◌>>=◌, octet_at, digit_count, has_no_leading_zero, value_of, number_of, number_at}
 use Rattle.schedule_text.proofs.Fronts.{front_digits}
 
 pub own : IsNumeralModel (AllDigits 10) (digits_value 10)

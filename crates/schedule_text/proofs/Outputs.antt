@@ -1,29 +1,12 @@
 -- Text that is put to a sink in several calls.
-use Rattle.std.proofs.Common.{◌≡◌, ℕ, ◌+◌, ◌/◌, ◌%◌, ◌<◌, length, get_or, take, drop, List, [], ◌∷◌, ◌++◌, Option, Some, None, true, Result, Ok, Err, map, refl, sym, ap, subst, ◌∙◌, append_assoc, arith, inl, inr}
-use Rattle.std.specs.Prelude.{IsErr, decimal}
-use Rattle.std.specs.List.{flat_map}
-use Rattle.std.specs.Io.KnownBytes.{Appends}
-use Rattle.std.proofs.lemmas.List.{append-nil, take_more, take-append-drop}
-use Rattle.link_trait.specs.Link.{TellsAlike}
-use Rattle.schedule_text.specs.declared.output.SinkFault.{SinkFault}
-use Rattle.schedule_text.specs.declared.output.Last.{Last}
+use Rattle.schedule_text.proofs.Below.{◌≡◌, ℕ, ◌+◌, ◌/◌, ◌%◌, ◌<◌, length, get_or, take, drop, List, [], ◌∷◌, ◌++◌, Option, Some, None, true, Result, Ok, Err, map, refl, sym, ap, subst, ◌∙◌, append_assoc, arith, inl, inr, IsErr, decimal, flat_map, Appends, append-nil, take_more, take-append-drop, SinkFault, Last, hex, hex_digit, line, rest_of_line, Puts, Fails, PutsOrFails, WritesText, last_part, last_text, parts, tells_then}
 use Rattle.schedule_text.specs.declared.output.Last.TheVariants as last
-use Rattle.schedule_text.specs.Line.{hex, hex_digit, line, rest_of_line}
-use Rattle.schedule_text.specs.Output.{Puts, Fails, PutsOrFails, WritesText, last_part, last_text, parts}
 
 pub appends_then : (xs ys zs : Option (List ℕ)) (a b : List ℕ) → Appends xs ys a → Appends ys zs b → Appends xs zs (a ++ b)
 appends_then None ys zs a b h k = tt
 appends_then (Some x) None zs a b h k = absurd h
 appends_then (Some x) (Some y) None a b h k = absurd k
 appends_then (Some x) (Some y) (Some z) a b h k = k ∙ ap (λ (v : List ℕ). v ++ b) h ∙ append_assoc x a b
-
-pub tells_then : (xs ys zs : Option (List ℕ)) → TellsAlike xs ys → TellsAlike ys zs → TellsAlike xs zs
-tells_then None None None h k = tt
-tells_then None None (Some z) h k = absurd k
-tells_then None (Some y) zs h k = absurd h
-tells_then (Some x) None zs h k = absurd h
-tells_then (Some x) (Some y) None h k = absurd k
-tells_then (Some x) (Some y) (Some z) h k = tt
 
 pub puts_then : {s t b0 b1 b2 : List ℕ} {w0 w1 w2 : Option (List ℕ)} {f0 f1 f2 : ℕ} → Puts s b0 b1 w0 w1 f0 f1 → Puts t b1 b2 w1 w2 f1 f2 → Puts (s ++ t) b0 b2 w0 w2 f0 f2
 puts_then {s} {t} {b0} {b1} {b2} {w0} {w1} {w2} p q = record {
@@ -71,9 +54,6 @@ exit_before t b1 r h p = exit b1 r h (fails_more t p)
 -- a whole text as one that was put, and back
 pub put_whole : (text : List ℕ) (w0 w1 : Option (List ℕ)) (f0 f1 : ℕ) → WritesText text w0 w1 f0 f1 true → Puts text [] [] w0 w1 f0 f1
 put_whole text w0 w1 f0 f1 p = record { sent = text; held = sym (append-nil text); written = p.0; tells = p.1; faults = p.2 }
-
-pub whole_put : {text : List ℕ} {w0 w1 : Option (List ℕ)} {f0 f1 : ℕ} → Puts text [] [] w0 w1 f0 f1 → WritesText text w0 w1 f0 f1 true
-whole_put {text} {w0} {w1} p = (subst (λ (v : List ℕ). Appends w0 w1 v) (sym (p.held ∙ append-nil p.sent)) p.written, p.tells, p.faults)
 
 -- the parts of a line, as they are put
 rest_of_last : (last : Last) → rest_of_line (last_part last) ≡ last_text last ++ 10 ∷ []

@@ -1,10 +1,5 @@
 -- A schedule that is printed act by act.
-use Rattle.std.proofs.Common.{◌≡◌, ℕ, suc, ◌+◌, ◌<◌, List, [], ◌∷◌, ◌++◌, Option, true, length, get_or, take, drop, sym, ap, subst, ◌∙◌, append_assoc}
-use Rattle.std.specs.List.{flat_map, AllByRecursion}
-use Rattle.std.proofs.lemmas.List.{take_more}
-use Rattle.link_trait.specs.declared.act.Act.{Act}
-use Rattle.schedule_text.specs.Spelling.{SendsOctets, header, schedule_text, spelled}
-use Rattle.schedule_text.specs.Output.{Puts, Fails, WritesText}
+use Rattle.schedule_text.proofs.Below.{◌≡◌, ℕ, suc, ◌+◌, ◌<◌, List, [], ◌∷◌, ◌++◌, Option, true, length, get_or, take, drop, sym, ap, subst, ◌∙◌, append_assoc, flat_map, AllByRecursion, take_more, Act, SendsOctets, header, schedule_text, spelled, Puts, Fails, WritesText}
 use Rattle.schedule_text.proofs.Outputs.{fails_more, puts_fails, puts_then, put_whole, flat_map_next, flat_map_parted}
 
 -- one more act is printed
@@ -29,7 +24,3 @@ sends_more (x ∷ xs) act h k = (h.0, sends_more xs act h.1 k)
 
 pub sends_next : (acts : List Act) (i : ℕ) (act : Act) → i < length acts → act ≡ get_or acts i act → AllByRecursion SendsOctets (take i acts) → SendsOctets act → AllByRecursion SendsOctets (take (i + 1) acts)
 sends_next acts i act h e p q = subst (AllByRecursion SendsOctets) (ap (λ (a : Act). take i acts ++ a ∷ []) e ∙ sym (take_more acts i act h)) (sends_more (take i acts) act p q)
-
-pub sends_octets : (octets : List ℕ) → ((i : ℕ) → get_or octets i 0 < 256) → AllByRecursion (λ octet. octet < 256) octets
-sends_octets [] h = tt
-sends_octets (octet ∷ octets) h = (h 0, sends_octets octets (λ i. h (suc i)))

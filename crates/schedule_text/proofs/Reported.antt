@@ -1,24 +1,8 @@
 -- A report is that of one list of notes and one list of links.
-use Rattle.std.proofs.Common.{◌≡◌, ℕ, ◌/◌, ◌%◌, ◌^◌, ◌<◌, Bool, true, false, cond, eqb, ltb, List, [], ◌∷◌, ◌++◌, length, get_or, decimal, refl, sym, ap, ◌∙◌, append_assoc, arith}
-use Rattle.std.specs.Prelude.{codes, if◌then◌else◌}
-use Rattle.std.specs.Char.{digit_value}
-use Rattle.std.specs.List.{flat_map, list_all, AllByRecursion}
-use Rattle.std.specs.Str.{bytes_eq}
-use Rattle.std.specs.Str.Parse.{AllDigits, digits_value}
-use Rattle.std.proofs.lemmas.Bool.{and_parts}
-use Rattle.std.proofs.lemmas.Bool.Decides.{nat_tests}
-use Rattle.std.proofs.lemmas.Fmt.{digits_decimal, digits_value-decimal}
-use Rattle.std.proofs.lemmas.Str.Parse.{digit_from_value}
-use Rattle.ws_kinds.specs.NoteValue.{NoteValue, turn, tick, accepted, busy, no_room, given, head, opened, message, ping_got, pong_got, peer_close, failed, took, dropped, unserved, pinged, told, closed, gone}
+use Rattle.schedule_text.proofs.Below.{◌≡◌, ℕ, ◌/◌, ◌%◌, ◌^◌, ◌<◌, Bool, true, false, cond, eqb, ltb, List, [], ◌∷◌, ◌++◌, length, get_or, decimal, refl, sym, ap, ◌∙◌, append_assoc, arith, codes, if◌then◌else◌, digit_value, flat_map, list_all, AllByRecursion, bytes_eq, AllDigits, digits_value, and_parts, nat_tests, digits_decimal, digits_value-decimal, digit_from_value, NoteValue, turn, tick, accepted, busy, no_room, given, head, opened, message, ping_got, pong_got, peer_close, failed, took, dropped, unserved, pinged, told, closed, gone, Why, Left, hex, hex_digit, line, shown, pairs_at, AreOctets, IsNote, IsLink, IsOneToOne, Link, drained_word, kind_word, left_word, link_line, note_line, why_word}
 use Rattle.ws_kinds.specs.declared.kind.Kind.TheVariants as kind
-use Rattle.ws_kinds.specs.declared.note.Why.{Why}
 use Rattle.ws_kinds.specs.declared.note.Why.TheVariants as why
-use Rattle.ws_kinds.specs.declared.note.Left.{Left}
 use Rattle.ws_kinds.specs.declared.note.Left.TheVariants as left
-use Rattle.schedule_text.specs.Line.{hex, hex_digit, line, shown}
-use Rattle.schedule_text.specs.Front.{pairs_at}
-use Rattle.schedule_text.specs.Spelling.{AreOctets}
-use Rattle.schedule_text.specs.Report.{IsLink, IsNote, IsOneToOne, Link, drained_word, kind_word, left_word, link_line, note_line, why_word}
 use Rattle.schedule_text.proofs.Numbers.{own}
 use Rattle.schedule_text.proofs.Hex.{pair_again}
 use Rattle.schedule_text.proofs.Followed.{clash}

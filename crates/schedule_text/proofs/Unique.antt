@@ -1,21 +1,11 @@
 -- Octets have one reading.
-use Rattle.std.proofs.Common.{◌≡◌, ◌≢◌, ℕ, ◌+◌, ◌<◌, ◌≤◌, ◌&&◌, Bool, true, false, not, cond, leb, List, [], ◌∷◌, ◌++◌, Some, None, Result, Ok, Err, length, refl, sym, ap, subst, ◌∙◌, append_assoc, arith, inl, inr, ◌⊎◌}
-use Rattle.std.specs.List.{flat_map, AllByRecursion}
-use Rattle.std.proofs.lemmas.List.{append-nil}
-use Rattle.std.proofs.lemmas.Bool.{and_parts}
-use Rattle.mem_net.specs.Schedule.{is_number, is_rising, has_arrived, has_ended, can_send, is_sound_after, are_sound_after}
-use Rattle.link_trait.specs.declared.act.Act.{Act}
+use Rattle.schedule_text.proofs.Below.{◌≡◌, ◌≢◌, ℕ, ◌+◌, ◌<◌, ◌≤◌, ◌&&◌, Bool, true, false, not, cond, leb, List, [], ◌∷◌, ◌++◌, Some, None, Result, Ok, Err, length, refl, sym, ap, subst, ◌∙◌, append_assoc, arith, inl, inr, ◌⊎◌, flat_map, AllByRecursion, append-nil, and_parts, is_number, is_rising, has_arrived, has_ended, can_send, is_sound_after, are_sound_after, Act, Fault, ReadFault, spelled, header, schedule_text, HasLine, act_at, sending_fault, fault_after, Breaks, Begins, IsText, IsRefused, IsReading, IsUnlessMemory}
 use Rattle.link_trait.specs.declared.act.Act.TheVariants as act
-use Rattle.schedule_text.specs.declared.fault.Fault.{Fault}
 use Rattle.schedule_text.specs.declared.fault.Fault.TheVariants as fault
-use Rattle.schedule_text.specs.declared.fault.ReadFault.{ReadFault}
 use Rattle.schedule_text.specs.declared.fault.ReadFault.TheVariants as read
-use Rattle.schedule_text.specs.Spelling.{spelled, header, schedule_text, HasLine}
-use Rattle.schedule_text.specs.Front.{act_at}
-use Rattle.schedule_text.specs.Reading.{sending_fault, fault_after, Breaks, Begins, IsText, IsRefused, IsReading, IsUnlessMemory}
 use Rattle.schedule_text.proofs.Lines.{act_again, act_once}
 use Rattle.schedule_text.proofs.Followed.{clash}
-use Rattle.schedule_text.proofs.Begun.{BreaksAs, none_is}
+use Rattle.schedule_text.proofs.Begun.{BreaksAs, none_is, some_fault as some_fault_once}
 
 -- ---- acts that break no rule
 
@@ -56,9 +46,6 @@ either acts octets fault.BadLine b = inl (refl, b.0, b.1)
 either acts octets fault.NotRising (act, rest, line, text, is) = inr (record { act = act; rest = rest; line = line; text = text; fault = is })
 either acts octets fault.UnknownConn (act, rest, line, text, is) = inr (record { act = act; rest = rest; line = line; text = text; fault = is })
 either acts octets fault.AfterEnd (act, rest, line, text, is) = inr (record { act = act; rest = rest; line = line; text = text; fault = is })
-
-some_fault_once : (f g : Fault) → Some f ≡ Some g → f ≡ g
-some_fault_once f g e = cc
 
 breaks_once : (acts : List Act) (octets : List ℕ) (f g : Fault) → Breaks acts octets f → Breaks acts octets g → f ≡ g
 unfolding BreaksEither
@@ -137,9 +124,6 @@ begins_once octets a b x y p q s t =
 
 pub text_begins : (octets : List ℕ) (acts : List Act) → IsText octets acts → Begins octets acts []
 text_begins octets acts h = record { short = h.short; text = h.text ∙ sym (append-nil (schedule_text acts)); lines = h.lines; sound = h.sound }
-
-pub begins_text : (octets : List ℕ) (acts : List Act) → Begins octets acts [] → IsText octets acts
-begins_text octets acts h = record { short = h.short; text = h.text ∙ append-nil (schedule_text acts); lines = h.lines; sound = h.sound }
 
 -- a refusal by one of its three kinds
 Refusal : List ℕ → ℕ → Fault → Type 0

@@ -7,3 +7,4 @@ pub mod Front
 pub mod Arrivals
 pub mod Reader
 pub mod FaultText
+pub mod All

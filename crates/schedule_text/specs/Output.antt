@@ -1,8 +1,10 @@
 -- Text on its way to a sink, through a buffer.
 use Rattle.std.specs.Prelude.{◌≡◌, ◌≤◌, ◌++◌, ℕ, List, [], ◌∷◌, Option, Bool, true, false, Result, Ok, Err, decimal, map}
+use Rattle.std.specs.List.{flat_map}
 use Rattle.std.specs.Io.KnownBytes.{Appends}
 use Rattle.link_trait.specs.Link.{TellsAlike, Rose}
 use Rattle.link_trait.specs.Sink.{AppendsFront}
+use Rattle.link_trait.specs.declared.sink.Sink.{Ghosts as SinkMeaning}
 use Rattle.schedule_text.specs.declared.output.SinkFault.{SinkFault}
 use Rattle.schedule_text.specs.declared.output.Last.{Last}
 use Rattle.schedule_text.specs.declared.output.Last.TheVariants as last
@@ -40,6 +42,19 @@ abbrev pub WritesText : List ℕ → Option (List ℕ) → Option (List ℕ) →
 WritesText text written_before written_after faults_before faults_after true =
     Appends written_before written_after text × TellsAlike written_before written_after × (faults_after ≡ faults_before)
 WritesText text written_before written_after faults_before faults_after false = Fails text [] written_before written_after faults_before faults_after
+
+-- The same of a sink, which was so before a call and after it.
+abbrev pub PutsTo : {K : Type 0} → SinkMeaning K → (text held_before held_after : List ℕ) → (before after : K) → Result (Unit {0}) SinkFault → Type 0
+PutsTo of_sink text held_before held_after before after result =
+    PutsOrFails text held_before held_after (of_sink.written before) (of_sink.written after) (of_sink.faults before) (of_sink.faults after) result
+
+abbrev pub WritesTo : {K : Type 0} → SinkMeaning K → (text : List ℕ) → (before after : K) → Bool → Type 0
+WritesTo of_sink text before after result =
+    WritesText text (of_sink.written before) (of_sink.written after) (of_sink.faults before) (of_sink.faults after) result
+
+-- numbers, each behind a space
+abbrev pub numbers_text : List ℕ → List ℕ
+numbers_text numbers = flat_map (λ number. 32 ∷ decimal number) numbers
 
 -- the last part of a line, if there is one
 abbrev pub last_part : Last → List (List ℕ)

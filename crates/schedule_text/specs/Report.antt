@@ -1,5 +1,5 @@
 -- The report of a run: one line for each note, and one for each link.
-use Rattle.std.specs.Prelude.{◌≡◌, ◌<◌, ◌^◌, ◌++◌, ⊤, ℕ, List, [], ◌∷◌, Bool, true, false, codes, decimal}
+use Rattle.std.specs.Prelude.{◌≡◌, ◌<◌, ◌^◌, ◌++◌, ℕ, List, [], ◌∷◌, Bool, true, false, codes, decimal}
 use Rattle.std.specs.List.{flat_map, AllByRecursion}
 use Rattle.ws_kinds.specs.NoteValue.{NoteValue, turn, tick, accepted, busy, no_room, given, head, opened, message, ping_got, pong_got, peer_close, failed, took, dropped, unserved, pinged, told, closed, gone}
 use Rattle.ws_kinds.specs.declared.kind.Kind.{Kind}
@@ -8,7 +8,7 @@ use Rattle.ws_kinds.specs.declared.note.Why.{Why}
 use Rattle.ws_kinds.specs.declared.note.Why.TheVariants as why
 use Rattle.ws_kinds.specs.declared.note.Left.{Left}
 use Rattle.ws_kinds.specs.declared.note.Left.TheVariants as left
-use Rattle.schedule_text.specs.Spelling.{AreOctets}
+use Rattle.ws_kinds.specs.Ranges.{AreOctets, IsNote}
 use Rattle.schedule_text.specs.Line.{shown, line}
 
 abbrev pub kind_word : Kind → List ℕ
@@ -58,29 +58,6 @@ note_line (pinged conn) = line (codes "pinged" ∷ decimal conn ∷ [])
 note_line (told conn count drained) = line (codes "told" ∷ decimal conn ∷ decimal count ∷ drained_word drained ∷ [])
 note_line (closed conn code reason) = line (codes "closed" ∷ decimal conn ∷ decimal code ∷ shown reason ∷ [])
 note_line (gone conn left) = line (codes "gone" ∷ decimal conn ∷ left_word left ∷ [])
-
--- the numbers of a note are below 2 ^ 64, and what it shows is octets
-abbrev pub IsNote : NoteValue → Type 0
-IsNote turn = ⊤
-IsNote tick = ⊤
-IsNote (accepted conn) = conn < 2 ^ 64
-IsNote (busy conn) = conn < 2 ^ 64
-IsNote (no_room conn) = conn < 2 ^ 64
-IsNote (given conn count) = (conn < 2 ^ 64) × (count < 2 ^ 64)
-IsNote (head conn status) = (conn < 2 ^ 64) × (status < 2 ^ 64)
-IsNote (opened conn route param) = (conn < 2 ^ 64) × (route < 2 ^ 64) × AreOctets param
-IsNote (message conn kind body) = (conn < 2 ^ 64) × AreOctets body
-IsNote (ping_got conn body) = (conn < 2 ^ 64) × AreOctets body
-IsNote (pong_got conn body) = (conn < 2 ^ 64) × AreOctets body
-IsNote (peer_close conn code reason) = (conn < 2 ^ 64) × (code < 2 ^ 64) × AreOctets reason
-IsNote (failed conn code) = (conn < 2 ^ 64) × (code < 2 ^ 64)
-IsNote (took conn offered count) = (conn < 2 ^ 64) × (offered < 2 ^ 64) × (count < 2 ^ 64)
-IsNote (dropped conn index held) = (conn < 2 ^ 64) × (index < 2 ^ 64) × (held < 2 ^ 64)
-IsNote (unserved conn order why) = (conn < 2 ^ 64) × (order < 2 ^ 64)
-IsNote (pinged conn) = conn < 2 ^ 64
-IsNote (told conn count drained) = (conn < 2 ^ 64) × (count < 2 ^ 64)
-IsNote (closed conn code reason) = (conn < 2 ^ 64) × (code < 2 ^ 64) × AreOctets reason
-IsNote (gone conn left) = conn < 2 ^ 64
 
 -- the line of a link: the connection, the octets still held back, and those that it took
 abbrev pub link_line : ℕ → ℕ → List ℕ → List ℕ

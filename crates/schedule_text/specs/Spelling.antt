@@ -5,6 +5,7 @@ use Rattle.mem_net.specs.Schedule.{is_plain}
 use Rattle.link_trait.specs.declared.act.Act.{Act}
 use Rattle.link_trait.specs.declared.act.Act.TheVariants as act
 use Rattle.schedule_text.specs.Line.{hex, line}
+use Rattle.ws_kinds.specs.Ranges.{AreOctets}
 
 -- an act as a line
 abbrev pub spelled : Act → List ℕ
@@ -29,10 +30,6 @@ schedule_text acts = header ++ flat_map spelled acts
 -- a connection's number, from 1 to 4,294,967,295
 abbrev pub IsNumber : ℕ → Type 0
 IsNumber conn = (1 ≤ conn) × (conn < 2 ^ 32)
-
--- octets, as numbers
-abbrev pub AreOctets : List ℕ → Type 0
-AreOctets octets = AllByRecursion (λ octet. octet < 256) octets
 
 -- what an act sends is octets
 abbrev pub SendsOctets : Act → Type 0

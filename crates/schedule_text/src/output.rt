@@ -1,9 +1,8 @@
 //! Lines on their way to a sink.
 
 ghost use Rattle.std.specs.Prelude.{◌≡◌, ◌<◌, [], ◌∷◌, decimal};
-ghost use Rattle.std.specs.List.{flat_map};
 ghost use Rattle.schedule_text.specs.Line.{hex, hex_digit, line};
-ghost use Rattle.schedule_text.specs.Output.{Holds, PutsOrFails, WritesText, last_part, last_text, parts};
+ghost use Rattle.schedule_text.specs.Output.{Holds, PutsTo, WritesTo, last_part, last_text, numbers_text, parts};
 
 use arrayvec::ArrayVec;
 use itoa::Buffer;
@@ -26,28 +25,28 @@ enum Last<'a> {
 
 /// Writes a line of a word and numbers in decimal. Answers whether the sink took all of it.
 pub(crate) fn write_numbers<K: Sink>(sink: &mut K, word: &[u8], numbers: &[u64]) -> bool
-    ensures { WritesText (line (parts word.now numbers.now [])) (K.written sink.old) (K.written sink.new) (K.faults sink.old) (K.faults sink.new) result }
+    ensures { WritesTo K.Sink (line (parts word.now numbers.now [])) sink.old sink.new result }
 {
     write_line(sink, word, numbers, Last::Nothing)
 }
 
 /// The same with a word behind the numbers.
 pub(crate) fn write_word<K: Sink>(sink: &mut K, word: &[u8], numbers: &[u64], last: &[u8]) -> bool
-    ensures { WritesText (line (parts word.now numbers.now (last.now ∷ []))) (K.written sink.old) (K.written sink.new) (K.faults sink.old) (K.faults sink.new) result }
+    ensures { WritesTo K.Sink (line (parts word.now numbers.now (last.now ∷ []))) sink.old sink.new result }
 {
     write_line(sink, word, numbers, Last::Word(last))
 }
 
 /// The same with octets behind the numbers, as hexadecimal digits.
 pub(crate) fn write_hex<K: Sink>(sink: &mut K, word: &[u8], numbers: &[u64], octets: &[u8]) -> bool
-    ensures { WritesText (line (parts word.now numbers.now (hex octets.now ∷ []))) (K.written sink.old) (K.written sink.new) (K.faults sink.old) (K.faults sink.new) result }
+    ensures { WritesTo K.Sink (line (parts word.now numbers.now (hex octets.now ∷ []))) sink.old sink.new result }
 {
     write_line(sink, word, numbers, Last::Hex(octets))
 }
 
 /// Writes one line: a word, numbers in decimal, and a last part. Answers whether the sink took all of it.
 fn write_line<K: Sink>(sink: &mut K, word: &[u8], numbers: &[u64], last: Last<'_>) -> bool
-    ensures { WritesText (line (parts word.now numbers.now (last_part last.entry))) (K.written sink.old) (K.written sink.new) (K.faults sink.old) (K.faults sink.new) result }
+    ensures { WritesTo K.Sink (line (parts word.now numbers.now (last_part last.entry))) sink.old sink.new result }
 {
     let mut output = Output::new();
     output.line(sink, word, numbers, last).is_ok()
@@ -77,7 +76,7 @@ impl Output {
         last: Last<'_>,
     ) -> Result<(), SinkFault>
         requires { self.old.held.items ≡ [] }
-        ensures { PutsOrFails (line (parts word.now numbers.now (last_part last.entry))) [] [] (K.written sink.old) (K.written sink.new) (K.faults sink.old) (K.faults sink.new) result }
+        ensures { PutsTo K.Sink (line (parts word.now numbers.now (last_part last.entry))) [] [] sink.old sink.new result }
     {
         self.put(sink, word)?;
         self.numbers(sink, numbers)?;
@@ -88,7 +87,7 @@ impl Output {
 
     /// Puts each number behind a space.
     fn numbers<K: Sink>(&mut self, sink: &mut K, numbers: &[u64]) -> Result<(), SinkFault>
-        ensures { PutsOrFails (flat_map (λ number. 32 ∷ decimal number) numbers.now) self.old.held.items self.new.held.items (K.written sink.old) (K.written sink.new) (K.faults sink.old) (K.faults sink.new) result }
+        ensures { PutsTo K.Sink (numbers_text numbers.now) self.old.held.items self.new.held.items sink.old sink.new result }
     {
         'numbers: for number in numbers {
             self.number(sink, *number)?;
@@ -98,7 +97,7 @@ impl Output {
 
     /// Puts a number behind a space.
     fn number<K: Sink>(&mut self, sink: &mut K, number: u64) -> Result<(), SinkFault>
-        ensures { PutsOrFails (32 ∷ decimal number) self.old.held.items self.new.held.items (K.written sink.old) (K.written sink.new) (K.faults sink.old) (K.faults sink.new) result }
+        ensures { PutsTo K.Sink (32 ∷ decimal number) self.old.held.items self.new.held.items sink.old sink.new result }
     {
         let mut digits = Buffer::new();
         self.put(sink, b" ")?;
@@ -107,7 +106,7 @@ impl Output {
 
     /// Puts the last part behind a space, if there is one.
     fn last<K: Sink>(&mut self, sink: &mut K, last: Last<'_>) -> Result<(), SinkFault>
-        ensures { PutsOrFails (last_text last.entry) self.old.held.items self.new.held.items (K.written sink.old) (K.written sink.new) (K.faults sink.old) (K.faults sink.new) result }
+        ensures { PutsTo K.Sink (last_text last.entry) self.old.held.items self.new.held.items sink.old sink.new result }
     {
         match last {
             Last::Nothing => Ok(()),
@@ -124,7 +123,7 @@ impl Output {
 
     /// Puts octets as hexadecimal digits.
     fn hex<K: Sink>(&mut self, sink: &mut K, octets: &[u8]) -> Result<(), SinkFault>
-        ensures { PutsOrFails (hex octets.now) self.old.held.items self.new.held.items (K.written sink.old) (K.written sink.new) (K.faults sink.old) (K.faults sink.new) result }
+        ensures { PutsTo K.Sink (hex octets.now) self.old.held.items self.new.held.items sink.old sink.new result }
     {
         'octets: for octet in octets {
             self.put(sink, &[digit(*octet / 16), digit(*octet % 16)])?;
@@ -134,7 +133,7 @@ impl Output {
 
     /// Puts octets behind those that are held back. Where the buffer has no room for them, all is written.
     fn put<K: Sink>(&mut self, sink: &mut K, octets: &[u8]) -> Result<(), SinkFault>
-        ensures { PutsOrFails octets.now self.old.held.items self.new.held.items (K.written sink.old) (K.written sink.new) (K.faults sink.old) (K.faults sink.new) result }
+        ensures { PutsTo K.Sink octets.now self.old.held.items self.new.held.items sink.old sink.new result }
     {
         if self.hold(octets) {
             return Ok(());
@@ -153,7 +152,7 @@ impl Output {
     /// Writes what is held back.
     fn flush<K: Sink>(&mut self, sink: &mut K) -> Result<(), SinkFault>
         ensures empty { self.new.held.items ≡ [] }
-        ensures written { PutsOrFails [] self.old.held.items [] (K.written sink.old) (K.written sink.new) (K.faults sink.old) (K.faults sink.new) result }
+        ensures written { PutsTo K.Sink [] self.old.held.items [] sink.old sink.new result }
     {
         let result = send(sink, self.held.as_slice());
         self.held.clear();
@@ -163,7 +162,7 @@ impl Output {
 
 /// Writes octets, with nothing held back before or after.
 fn send<K: Sink>(sink: &mut K, octets: &[u8]) -> Result<(), SinkFault>
-    ensures { PutsOrFails octets.now [] [] (K.written sink.old) (K.written sink.new) (K.faults sink.old) (K.faults sink.new) result }
+    ensures { PutsTo K.Sink octets.now [] [] sink.old sink.new result }
 {
     if !write_all(sink, octets) {
         return Err(SinkFault);

@@ -4,7 +4,7 @@ ghost use Rattle.std.specs.Prelude.{◌≡◌, true};
 ghost use Rattle.mem_net.specs.Schedule.{is_sound};
 ghost use Rattle.schedule_text.specs.Spelling.{SendsOctets, schedule_text, spelled};
 ghost use Rattle.schedule_text.specs.Reading.{IsReadAgain};
-ghost use Rattle.schedule_text.specs.Output.{WritesText};
+ghost use Rattle.schedule_text.specs.Output.{WritesTo};
 
 use crate::output::{write_hex, write_numbers, write_word};
 use link_trait::{Act, Sink};
@@ -16,7 +16,7 @@ use mem_net::Schedule;
 /// unless it has more than 1,048,576 octets or lines that are not read yet.
 pub fn print<K: Sink>(schedule: &Schedule, sink: &mut K) -> bool
     requires { is_sound schedule.now ≡ true }
-    ensures written { WritesText (schedule_text schedule.now) (K.written sink.old) (K.written sink.new) (K.faults sink.old) (K.faults sink.new) result }
+    ensures written { WritesTo K.Sink (schedule_text schedule.now) sink.old sink.new result }
     ensures again { result ≡ true → IsReadAgain schedule.now }
 {
     if !write_word(sink, b"corked", &[], b"1") {
@@ -32,7 +32,7 @@ pub fn print<K: Sink>(schedule: &Schedule, sink: &mut K) -> bool
 
 /// Writes the line of an act.
 fn print_act<K: Sink>(act: &Act, sink: &mut K) -> bool
-    ensures written { WritesText (spelled act.now) (K.written sink.old) (K.written sink.new) (K.faults sink.old) (K.faults sink.new) result }
+    ensures written { WritesTo K.Sink (spelled act.now) sink.old sink.new result }
     ensures octets { SendsOctets act.now }
 {
     match act {

@@ -3,7 +3,7 @@
 ghost use Rattle.std.specs.Prelude.{◌≡◌, [], ◌∷◌};
 ghost use Rattle.ws_kinds.specs.NoteValue.{note_value};
 ghost use Rattle.schedule_text.specs.Line.{line, shown};
-ghost use Rattle.schedule_text.specs.Output.{WritesText, parts};
+ghost use Rattle.schedule_text.specs.Output.{WritesTo, parts};
 ghost use Rattle.schedule_text.specs.Report.{IsOneToOne, note_line, link_line, kind_word, why_word, left_word, drained_word};
 
 use crate::output::{write_hex, write_numbers, write_word};
@@ -12,7 +12,7 @@ use ws_kinds::{Conn, Kind, Left, Note, Why};
 
 /// Writes the line of a note, and answers whether the sink took all of it. It takes no memory.
 pub fn report_note<K: Sink>(note: &Note<'_>, sink: &mut K) -> bool
-    ensures { WritesText (note_line (note_value note.now)) (K.written sink.old) (K.written sink.new) (K.faults sink.old) (K.faults sink.new) result }
+    ensures { WritesTo K.Sink (note_line (note_value note.now)) sink.old sink.new result }
 {
     match *note {
         Note::Turn => write_numbers(sink, b"turn", &[]),
@@ -57,7 +57,7 @@ pub fn report_note<K: Sink>(note: &Note<'_>, sink: &mut K) -> bool
 /// Writes the line of a link: the connection, the octets still held back for it, and the octets that the link took. It
 /// answers whether the sink took all of the line, and takes no memory.
 pub fn report_link<K: Sink>(conn: Conn, held: u64, octets: &[u8], sink: &mut K) -> bool
-    ensures { WritesText (link_line conn.0 held octets.now) (K.written sink.old) (K.written sink.new) (K.faults sink.old) (K.faults sink.new) result }
+    ensures { WritesTo K.Sink (link_line conn.0 held octets.now) sink.old sink.new result }
 {
     write_shown(sink, b"link", &[conn.0, held], octets)
 }
@@ -70,14 +70,14 @@ pub fn one_report()
 
 /// Writes a line of a word, a connection, and the code and the reason with which it was closed.
 fn write_end<K: Sink>(sink: &mut K, word: &[u8], conn: Conn, code: u16, reason: &[u8]) -> bool
-    ensures { WritesText (line (parts word.now (conn.0 ∷ code ∷ []) (shown reason.now ∷ []))) (K.written sink.old) (K.written sink.new) (K.faults sink.old) (K.faults sink.new) result }
+    ensures { WritesTo K.Sink (line (parts word.now (conn.0 ∷ code ∷ []) (shown reason.now ∷ []))) sink.old sink.new result }
 {
     write_shown(sink, word, &[conn.0, code.into()], reason)
 }
 
 /// Writes a line of a word, numbers, and octets as hexadecimal digits, or `-` for none.
 fn write_shown<K: Sink>(sink: &mut K, word: &[u8], numbers: &[u64], octets: &[u8]) -> bool
-    ensures { WritesText (line (parts word.now numbers.now (shown octets.now ∷ []))) (K.written sink.old) (K.written sink.new) (K.faults sink.old) (K.faults sink.new) result }
+    ensures { WritesTo K.Sink (line (parts word.now numbers.now (shown octets.now ∷ []))) sink.old sink.new result }
 {
     if octets.is_empty() {
         return write_word(sink, word, numbers, b"-");

@@ -1,1 +1,3 @@
 pub mod OfferLemmas
+pub mod Below
+pub mod All

@@ -1,26 +1,7 @@
 -- What is noted of octets that are offered, and what a link took of a connection whose write failed.
-use Rattle.std.proofs.Common.{◌≡◌, ◌+◌, ℕ, List, [], ◌∷◌, ◌++◌, Option, Some, None, Bool, true, ◌&&◌, cond, nat_eq, length, take, refl, sym, ap, ◌∙◌, arith}
-use Rattle.std.proofs.lemmas.Bool.Decides.{nat_tests}
-use Rattle.std.proofs.lemmas.List.{length-append, length-take-le}
-use Rattle.std.specs.List.{list_all}
+use Rattle.socket_core.proofs.Below.{◌≡◌, ◌+◌, ℕ, List, [], ◌∷◌, ◌++◌, Option, Some, None, Bool, true, ◌&&◌, cond, nat_eq, length, take, refl, sym, ap, ◌∙◌, arith, nat_tests, length-append, length-take-le, list_all, NoteValue, IsNoted, AreNoted, NetState, Writes, Item, writes, taken, taken_of, Held, Stands, IsCounted, held_octets, taken_failed, is_sending, TakesFront, OffersNoted, Clear, same_number}
 use Rattle.ws_kinds.specs.NoteValue as note
-use Rattle.ws_kinds.specs.NoteValue.{NoteValue}
-use Rattle.ws_kinds.specs.Watch.{IsNoted, AreNoted}
-use Rattle.link_trait.specs.NetState.{NetState}
-use Rattle.link_trait.specs.Net.{Writes}
 use Rattle.link_trait.specs.declared.net.NetWrote.TheVariants as wrote
-use Rattle.wire_meaning.specs.Answer.{Item}
-use Rattle.run_meaning.specs.Counts.{writes, taken}
-use Rattle.hub_lines.specs.Told.{taken_of}
-use Rattle.hub_lines.specs.Lines.{Held, Stands, IsCounted, held_octets}
-use Rattle.hub_lines.proofs.NetLemmas.{taken_failed}
-use Rattle.run_meaning.specs.Notes.{is_sending}
-use Rattle.hub_lines.specs.Fronts.{TakesFront}
-use Rattle.socket_core.specs.Puts.{OffersNoted}
-use Rattle.socket_core.specs.declared.socket.Kept.TheVariants.{Clear}
-
-same_number : (c : ℕ) → nat_eq c c ≡ true
-same_number c = grind (arith, nat_tests)
 
 pub one_noted : (t t' : Option (List NoteValue)) (n : NoteValue) → IsNoted t n t' → AreNoted t (n ∷ []) t'
 one_noted (Some old) (Some new) n h = h

@@ -1,3 +1,4 @@
 pub mod Items
 pub mod Phases
 pub mod Puts
+pub mod All

@@ -3,9 +3,8 @@ use Rattle.std.specs.Prelude.{◌≡◌, ◌≢◌, ◌≤◌, ◌+◌, ℕ, Lis
 use Rattle.std.specs.List.{list_all}
 use Rattle.ws_kinds.specs.NoteValue.{NoteValue, took}
 use Rattle.ws_kinds.specs.Watch.{IsNoted, AreNoted}
-use Rattle.link_trait.specs.Link.{Rose}
 use Rattle.link_trait.specs.NetState.{NetState}
-use Rattle.link_trait.specs.Net.{Same, SameBut, SameNet, SameTrafficBut, Writes}
+use Rattle.link_trait.specs.Net.{CountsFault, Same, SameBut, SameNet, SameTrafficBut, Writes}
 use Rattle.link_trait.specs.declared.net.NetWrote.TheVariants.{Took as Accepted, Failed as WriteFailed}
 use Rattle.run_meaning.specs.Counts.{writes, taken, drops}
 use Rattle.run_meaning.specs.Notes.{is_sending}
@@ -21,13 +20,13 @@ TellsRing Failed ring = ⊤
 
 -- a write of the connection failed: the net counted a fault, and no note was told
 pub record BreaksLink (conn : ℕ) (old new : NetState) (old_told new_told : Option (List NoteValue)) : Type 0 where
-  pub faults : Rose old.faults new.faults
+  pub faults : CountsFault old.faults new.faults
   pub broken : old.tells ≡ true → new.broken conn ≡ true
   pub told : new_told ≡ old_told
 
 -- no write of the connection failed
 pub record LeavesLinkWhole (conn : ℕ) (old new : NetState) : Type 0 where
-  pub faults : new.faults ≡ old.faults
+  pub faults : old.faults ≤ new.faults
   pub broken : old.tells ≡ true → new.broken conn ≡ old.broken conn
 
 -- Failed exactly where the connection's write failed

@@ -64,7 +64,5 @@ fn append(octets: &mut Vec<u8>, more: &[u8])
     ensures len { vec_len octets.new ≡ vec_len octets.old + length more.now }
     ensures room { vec_capacity octets.old ≤ vec_capacity octets.new }
 {
-    if octets.extend_from_slice(more).is_err() {
-        unreachable!("the room was reserved");
-    }
+    octets.extend_from_slice(more).unwrap();
 }

@@ -65,7 +65,8 @@ fn put_reply<N: Net, W: Watch>(socket: &mut Socket, out: &mut Outside<N, W>) -> 
 fn put_text<N: Net, W: Watch>(socket: &mut Socket, out: &mut Outside<N, W>, payload: &[u8]) -> Kept
     requires live { (N.state out.old.net).live socket.old.conn ≡ true }
     requires short { length payload.now ≤ socket.old.config.max_message }
-    ensures moves { result ≢ Kept.Failed → Moves socket.old.conn socket.old.config.limit true (spelled (whole (Begins Text) payload.now) ∷ []) (buffered_of socket.old []) (buffered_of socket.new []) (N.state out.old.net) (N.state out.new.net) (W.told out.old.watch) (W.told out.new.watch) }
+    ensures moves { result ≢ Kept.Failed → Moves socket.old.conn socket.old.config.limit true (spelled (whole (Begins Text) payload.now) ∷ [])
+        (buffered_of socket.old []) (buffered_of socket.new []) (N.state out.old.net) (N.state out.new.net) (W.told out.old.watch) (W.told out.new.watch) }
     ensures live { (N.state out.new.net).live socket.new.conn ≡ true }
     ensures usual { socket.new.config ≡ socket.old.config }
 {

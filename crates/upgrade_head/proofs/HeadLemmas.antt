@@ -1,14 +1,6 @@
 -- Where a head ends.
-use Rattle.std.proofs.Common.{◌≡◌, ℕ, zero, suc, ◌+◌, ◌<◌, ◌≤◌, Bool, true, false, List, [], ◌∷◌, Some, None, length, take, get_or, refl, sym, ap, ◌∙◌, arith, ⊎_elim, inl, inr, ◌⊎◌, length-take, ◌++◌, nat_lt, ◌-◌}
-use Rattle.std.specs.Str.{bytes_eq}
-use Rattle.std.proofs.lemmas.List.{take-append-le, take_all}
-use Rattle.std.proofs.lemmas.Bool.Decides.{nat_tests}
-use Rattle.std.proofs.Math.Seq.{take-append-add}
-use Rattle.std.proofs.lemmas.Bool.{cases_Bool}
-use Rattle.std.proofs.lemmas.Slice.Eq.{bytes_eq-Decides}
-use Rattle.memchr.specs.Find.{OccursAt, FindsNeedle}
+use Rattle.upgrade_head.proofs.Below.{◌≡◌, ℕ, zero, suc, ◌+◌, ◌<◌, ◌≤◌, Bool, true, false, List, [], ◌∷◌, Some, None, length, take, get_or, refl, sym, ap, ◌∙◌, arith, ⊎_elim, inl, inr, ◌⊎◌, length-take, ◌++◌, nat_lt, ◌-◌, bytes_eq, take-append-le, take_all, nat_tests, take-append-add, cases_Bool, bytes_eq-Decides, OccursAt, FindsNeedle, empty_line, end_behind, head_end}
 use Rattle.memchr.proofs.lemmas.MatchLemmas.{OccursAt-part, OccursAt-from_part}
-use Rattle.upgrade_head.specs.Head.{empty_line, end_behind, head_end}
 
 some_injective : {a b : ℕ} → Some a ≡ Some b → a ≡ b
 some_injective {a} {b} is = cc

@@ -1,13 +1,6 @@
 -- One verdict on the octets, which stays.
-use Rattle.std.proofs.Common.{◌≡◌, Bool, ◌≢◌, ℕ, ◌≤◌, inl, inr, true, false, nat_lt, List, [], ◌++◌, Option, Some, None, length, take, refl, sym, ap, subst, ◌∙◌, arith, length-append, MatchOption}
-use Rattle.httparse.specs.Grammar.{RequestHead}
-use Rattle.httparse.proofs.GrammarLemmas.{request_unique}
-use Rattle.route_table.specs.Table.{RouteTable}
-use Rattle.upgrade_head.specs.Head.{IsHead, head_end}
+use Rattle.upgrade_head.proofs.Below.{◌≡◌, Bool, ◌≢◌, ℕ, ◌≤◌, inl, inr, true, false, nat_lt, List, [], ◌++◌, Option, Some, None, length, take, refl, sym, ap, subst, ◌∙◌, arith, length-append, MatchOption, RequestHead, request_unique, RouteTable, IsHead, head_end, take-append-le, nat_tests, Verdict, more, refuse, by_parts, JudgedHead, Judged, unended}
 use Rattle.upgrade_head.proofs.HeadLemmas.{head_end-stays, head_end-within, head_end-full}
-use Rattle.std.proofs.lemmas.List.{take-append-le}
-use Rattle.std.proofs.lemmas.Bool.Decides.{nat_tests}
-use Rattle.upgrade_head.specs.Judged.{Verdict, more, refuse, by_parts, JudgedHead, Judged, unended}
 
 head_unique : (octets : List ℕ) (h k : RequestHead) → IsHead octets h → IsHead octets k → h ≡ k
 head_unique octets h k a b = (request_unique octets h k [] [] a.0 b.0).0

@@ -1,8 +1,5 @@
 -- The key of a head.
-use Rattle.std.proofs.Common.{◌≡◌, ℕ, ◌<◌, true, List, Option, Some, None, length, MatchOption, option_copied, Bor, arith, sym, ap, ◌∙◌}
-use Rattle.std.specs.Array.{IsFirstChunk}
-use Rattle.std.proofs.lemmas.List.{take_all}
-use Rattle.upgrade_head.specs.Key.{is_key, checked_key}
+use Rattle.upgrade_head.proofs.Below.{◌≡◌, ℕ, ◌<◌, true, List, Option, Some, None, length, MatchOption, option_copied, Bor, arith, sym, ap, ◌∙◌, IsFirstChunk, take_all, is_key, checked_key}
 
 -- the first chunk of a value that is no longer than the chunk is the value
 pub whole_chunk : (chunk : Option (Bor (List ℕ))) (value : List ℕ) (n : ℕ) → MatchOption chunk (length value < n) (λ y. IsFirstChunk value y.now n)

@@ -5,3 +5,5 @@ pub mod KeyLemmas
 pub mod PathLemmas
 pub mod TextLemmas
 pub mod WordLemmas
+pub mod Below
+pub mod All

@@ -1,6 +1,5 @@
 -- Texts that are put together piece by piece.
-use Rattle.std.proofs.Common.{◌≡◌, ℕ, Bool, false, List, [], ◌++◌, arith, if◌then◌else◌}
-use Rattle.std.proofs.lemmas.Grind.{common_steps}
+use Rattle.upgrade_head.proofs.Below.{◌≡◌, ℕ, Bool, false, List, [], ◌++◌, arith, if◌then◌else◌, common_steps}
 
 three : (old a b c p q r : List ℕ) → p ≡ old ++ a → q ≡ p ++ b → r ≡ q ++ c → r ≡ old ++ (a ++ b ++ c)
 three old a b c p q r e f g = grind (arith, common_steps)

@@ -1,9 +1,5 @@
 -- One octet further in a value.
-use Rattle.std.proofs.Common.{◌≡◌, ℕ, Bool, ◌+◌, ◌-◌, ◌<◌, ◌≤◌, false, List, [], ◌∷◌, ◌++◌, length, get_or, drop, slice_range, refl, arith, get_or-drop, length-drop, ◌==◌}
-use Rattle.std.specs.List.{list_any}
-use Rattle.std.proofs.lemmas.List.{drop_more, take_more}
-use Rattle.httparse.proofs.TrimLemmas.{slice_empty}
-use Rattle.upgrade_head.specs.Word.{parts_after}
+use Rattle.upgrade_head.proofs.Below.{◌≡◌, ℕ, Bool, ◌+◌, ◌-◌, ◌<◌, ◌≤◌, false, List, [], ◌∷◌, ◌++◌, length, get_or, drop, slice_range, refl, arith, get_or-drop, length-drop, ◌==◌, list_any, drop_more, take_more, slice_empty, parts_after}
 
 slice_more : (xs : List ℕ) (start end : ℕ) → start ≤ end → end < length xs → slice_range xs start end ++ get_or xs end 0 ∷ [] ≡ slice_range xs start (end + 1)
 slice_more xs start end le lt =

@@ -5,3 +5,4 @@ pub mod Key
 pub mod Texts
 pub mod View
 pub mod Word
+pub mod All

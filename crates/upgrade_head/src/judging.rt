@@ -117,7 +117,7 @@ fn is_offered(protocol: &[u8], fields: Fields<'_>) -> bool
 }
 
 /// The route of a path, and its first parameter.
-#[tactic(auto, using(crate::proofs::PathLemmas::utf8_tests))]
+#[tactic(auto, using(ws_kinds::proofs::TextLemmas::utf8_tests))]
 fn route_of<'a>(path: &'a [u8], routes: &Routes) -> Option<(u8, &'a [u8])>
     ensures value { option_map (λ route. (route.0, route.1.now)) result ≡ route_of routes.now path.now }
     ensures in_table { IfSome result (λ route. route.0 < length routes.now.protocols) }

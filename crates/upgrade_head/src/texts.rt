@@ -10,9 +10,7 @@ fn put(text: &mut ArrayVec<u8, 256>, part: &[u8])
     requires { length text.old.items + length part.now ≤ 256 }
     ensures { text.new.items ≡ text.old.items ++ part.now }
 {
-    if text.try_extend_from_slice(part).is_err() {
-        unreachable!("there is room");
-    }
+    text.try_extend_from_slice(part).unwrap();
 }
 
 /// Appends the line that answers a subprotocol, if there is one.

@@ -1,17 +1,6 @@
 -- Where octets break off within a character.
-use Rattle.std.proofs.Common.{◌≡◌, ℕ, zero, suc, ◌+◌, ◌<◌, ◌≤◌, Bool, true, false, List, [], ◌∷◌, ◌++◌, length, get_or, take, drop, Option, refl, sym, ap, subst, ◌∙◌, arith, inl, inr, append_assoc, length-append, length-drop}
-use Rattle.std.proofs.Math.Seq.{take-add}
-use Rattle.std.proofs.lemmas.List.{take_at, drop_at, take_all, drop_all, take-append-le, take-append-drop, drop-drop, get_or_append_left, get_or-drop}
-use Rattle.std.proofs.lemmas.Bool.{and_parts, cases_lt}
-use Rattle.std.proofs.lemmas.Str.{IsUtf8-from_is_utf8, is_utf8-from_IsUtf8, IsUtf8-nil, IsUtf8-append, IsUtf8-take, IsUtf8-drop, IsUtf8-encode, IsCharBoundary-start, IsCharBoundary-from_take, IsCharBoundary-after_ascii, length-encode, len_utf8_bounds}
-use Rattle.std.specs.Prelude.{IsUtf8, is_none}
-use Rattle.std.specs.Cmp.{both_ways}
-use Rattle.std.specs.Str.{is_utf8, IsValidUpTo}
-use Rattle.std.specs.Str.Lossy.{utf8_valid_len, utf8_error_len}
+use Rattle.utf8_stream.proofs.Below.{◌≡◌, ℕ, zero, suc, ◌+◌, ◌<◌, ◌≤◌, Bool, true, false, List, [], ◌∷◌, ◌++◌, length, get_or, take, drop, Option, refl, sym, ap, subst, ◌∙◌, arith, inl, inr, append_assoc, length-append, length-drop, take-add, take_at, drop_at, take_all, drop_all, take-append-le, take-append-drop, drop-drop, get_or_append_left, get_or-drop, and_parts, cases_lt, IsUtf8-from_is_utf8, is_utf8-from_IsUtf8, IsUtf8-nil, IsUtf8-append, IsUtf8-take, IsUtf8-drop, IsUtf8-encode, IsCharBoundary-start, IsCharBoundary-from_take, IsCharBoundary-after_ascii, length-encode, len_utf8_bounds, IsUtf8, is_none, both_ways, is_utf8, IsValidUpTo, utf8_valid_len, utf8_error_len, is_text_front, longest, continuation_of, front_of_continued, IsUnfinished, IsWholeUpTo}
 use lib.Utf8.{encode, encodes, scalars, scalar}
-use Rattle.wire_meaning.specs.Text.{is_text_front}
-use Rattle.wire_meaning.proofs.TextFront.{longest, continuation_of, front_of_continued}
-use Rattle.utf8_stream.specs.Unfinished.{IsUnfinished, IsWholeUpTo}
 
 -- ---- text behind text
 

@@ -1,2 +1,4 @@
 pub mod FrontLemmas
 pub mod StreamLemmas
+pub mod Below
+pub mod All

@@ -1,17 +1,5 @@
 -- What the state between two pieces says of the octets so far.
-use Rattle.std.proofs.Common.{◌≡◌, ℕ, ◌+◌, ◌-◌, ◌<◌, ◌≤◌, true, false, List, [], ◌∷◌, ◌++◌, length, get_or, take, drop, flat_map, None, Some, sym, ap, subst, ◌∙◌, arith, inl, inr, append_assoc, length-append}
-use Rattle.std.proofs.Math.Seq.{take-append-add}
-use Rattle.std.proofs.lemmas.List.{append-nil, take_all, take-take, length-take, take-append-le, take-append-drop, drop_more}
-use Rattle.std.proofs.lemmas.List.Concat.{flat_map-append}
-use Rattle.std.proofs.lemmas.Bool.{ne_eqb, cases_lt, false_from_ne_true}
-use Rattle.std.proofs.lemmas.Str.{IsUtf8-from_is_utf8, is_utf8-from_IsUtf8, IsUtf8-nil}
-use Rattle.std.specs.Prelude.{IsUtf8, is_some, ◌==◌}
-use Rattle.std.specs.Str.{is_utf8}
-use Rattle.wire_meaning.specs.Text.{is_text_front}
-use Rattle.wire_meaning.proofs.TextFront.{continuation_of, front_of_continued, not_front}
-use Rattle.utf8_stream.specs.declared.stream.Utf8.{Utf8}
-use Rattle.utf8_stream.specs.Unfinished.{IsUnfinished, IsWholeUpTo, IsCarried}
-use Rattle.utf8_stream.specs.Stream.{accepts, Follows}
+use Rattle.utf8_stream.proofs.Below.{◌≡◌, ℕ, ◌+◌, ◌-◌, ◌<◌, ◌≤◌, true, false, List, [], ◌∷◌, ◌++◌, length, get_or, take, drop, flat_map, None, Some, sym, ap, subst, ◌∙◌, arith, inl, inr, append_assoc, length-append, take-append-add, append-nil, take_all, take-take, length-take, take-append-le, take-append-drop, drop_more, flat_map-append, ne_eqb, cases_lt, false_from_ne_true, IsUtf8-from_is_utf8, is_utf8-from_IsUtf8, IsUtf8-nil, IsUtf8, is_some, ◌==◌, is_utf8, is_text_front, continuation_of, front_of_continued, not_front, Utf8, IsUnfinished, IsWholeUpTo, IsCarried, accepts, Follows}
 use Rattle.utf8_stream.proofs.FrontLemmas.{is_utf8-behind, is_utf8-parted}
 
 -- ---- for callers, who keep `Follows utf8 all` beside the octets `all`

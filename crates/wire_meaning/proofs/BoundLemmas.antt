@@ -1,9 +1,5 @@
 -- The events of a reading are those that can be told.
-use Rattle.std.proofs.Common.{◌≡◌, ℕ, ◌≤◌, List, [], ◌∷◌, ◌++◌, Option, None, subst, arith}
-use Rattle.std.specs.List.{AllByRecursion}
-use Rattle.wire_meaning.specs.Event.{Event, message, ping, pong, closed, failed}
-use Rattle.wire_meaning.specs.Reading.{Begun, reads}
-use Rattle.wire_meaning.specs.Bounds.{CanBeTold, IsShort, AreShort}
+use Rattle.wire_meaning.proofs.Below.{◌≡◌, ℕ, ◌≤◌, List, [], ◌∷◌, ◌++◌, Option, None, subst, arith, AllByRecursion, Event, message, ping, pong, closed, failed, Begun, reads, CanBeTold, IsShort, AreShort}
 use Rattle.wire_meaning.proofs.ReadingLemmas.{reads_by}
 
 pub reads_told : (max : ℕ) (begun : Option Begun) (octets : List ℕ) → AllByRecursion (CanBeTold max) (reads max begun octets)

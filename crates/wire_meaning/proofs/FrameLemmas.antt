@@ -1,16 +1,5 @@
 -- A whole masked frame, read.
-use Rattle.std.specs.Prelude.{not}
-use Rattle.std.proofs.Common.{◌≡◌, ℕ, ◌+◌, ◌%◌, ◌^◌, ◌<◌, ◌≤◌, Bool, true, false, nat_lt, nat_le, ◌&&◌, List, ◌∷◌, ◌++◌, length, Option, Some, refl, ap, ◌∙◌, append_assoc, arith, inl, inr, length-append}
-use Rattle.std.specs.Int.{Width, w16, w64, byte_len, from_be_bytes, to_be_bytes}
-use Rattle.std.proofs.lemmas.Bool.{cases_lt, le-ltb, lt-ltb, ne_eqb, eq-eqb, lt-leb, le-leb}
-use Rattle.std.proofs.lemmas.List.{take_at, drop_at}
-use Rattle.std.proofs.lemmas.Nat.{from_be_bytes-to_be_bytes_2, from_be_bytes-to_be_bytes_8}
-use Rattle.ws_kinds.specs.declared.kind.Kind.TheVariants.{Text, Binary}
-use Rattle.wire_meaning.specs.declared.frame.Opcode.{Opcode}
-use Rattle.wire_meaning.specs.declared.frame.Opcode.TheVariants.{Continuation, Begins, Close, Ping, Pong, Reserved}
-use Rattle.wire_meaning.specs.Mask.{unmasked}
-use Rattle.wire_meaning.specs.Frame.{Opening, opening, is_final, has_reserved_bit, opcode_of, is_masked, seven_bits, number_at, size_at, key_at, with_key, with_size, size_octets, first_octet, masked_frame}
-use Rattle.wire_meaning.specs.Reading.{Begun, is_control, is_data, is_reserved, refuses_first, refuses_second, begun_octets, is_over, breach, frame_front, body_front, unless_breach, front_at, events_from, reads, IsAllowed}
+use Rattle.wire_meaning.proofs.Below.{not, ◌≡◌, ℕ, ◌+◌, ◌%◌, ◌^◌, ◌<◌, ◌≤◌, Bool, true, false, nat_lt, nat_le, ◌&&◌, List, ◌∷◌, ◌++◌, length, Option, Some, refl, ap, ◌∙◌, append_assoc, arith, inl, inr, length-append, Width, w16, w64, byte_len, from_be_bytes, to_be_bytes, cases_lt, le-ltb, lt-ltb, ne_eqb, eq-eqb, lt-leb, le-leb, take_at, drop_at, from_be_bytes-to_be_bytes_2, from_be_bytes-to_be_bytes_8, Text, Binary, Opcode, Continuation, Begins, Close, Ping, Pong, Reserved, unmasked, Opening, opening, is_final, has_reserved_bit, opcode_of, is_masked, seven_bits, number_at, size_at, key_at, with_key, with_size, size_octets, first_octet, masked_frame, Begun, is_control, is_data, is_reserved, refuses_first, refuses_second, begun_octets, is_over, breach, frame_front, body_front, unless_breach, front_at, events_from, reads, IsAllowed}
 use Rattle.wire_meaning.proofs.MaskLemmas.{length-unmasked, unmasked-unmasked}
 use Rattle.wire_meaning.proofs.ReadingLemmas.{reads_is}
 

@@ -1,20 +1,5 @@
 -- The events of a front of some octets are a front of their events.
-use Rattle.std.specs.Prelude.{not, ◌==◌}
-use Rattle.std.proofs.Common.{◌≡◌, ℕ, zero, suc, ◌+◌, ◌-◌, ◌^◌, ◌<◌, ◌≤◌, Bool, true, false, cond, nat_le, ◌&&◌, List, [], ◌∷◌, ◌++◌, length, take, drop, Option, Some, None, refl, sym, ap, subst, ◌∙◌, append_assoc, arith, inl, inr, length-append}
-use Rattle.std.specs.Int.{Width, w16, w64, byte_len, from_be_bytes}
-use Rattle.std.specs.Str.{is_utf8}
-use Rattle.std.proofs.lemmas.Bool.{cases_lt, le-ltb, lt-ltb, ne_eqb}
-use Rattle.std.proofs.lemmas.List.{take-append-le, drop-append-le, take_all}
-use Rattle.std.proofs.Math.Seq.{take-append-add}
-use Rattle.ws_kinds.specs.declared.kind.Kind.{Kind}
-use Rattle.ws_kinds.specs.declared.kind.Kind.TheVariants.{Text, Binary}
-use Rattle.wire_meaning.specs.declared.frame.Opcode.{Opcode}
-use Rattle.wire_meaning.specs.declared.frame.Opcode.TheVariants.{Continuation, Begins, Close, Ping, Pong, Reserved}
-use Rattle.wire_meaning.specs.Mask.{unmasked}
-use Rattle.wire_meaning.specs.Frame.{Opening, is_final, opcode_of, is_masked, seven_bits, octets_at, number_at, size_at, key_at, with_key, with_size}
-use Rattle.wire_meaning.specs.Text.{is_text_front}
-use Rattle.wire_meaning.specs.Event.{Event, message, failed}
-use Rattle.wire_meaning.specs.Reading.{Begun, Front, more, ends, opens, gives, is_text, refuses_first, refuses_second, is_over, part_is, breach, data_front, frame_front, body_front, unless_breach, front_at, events_from, reads}
+use Rattle.wire_meaning.proofs.Below.{not, ◌==◌, ◌≡◌, ℕ, zero, suc, ◌+◌, ◌-◌, ◌^◌, ◌<◌, ◌≤◌, Bool, true, false, cond, nat_le, ◌&&◌, List, [], ◌∷◌, ◌++◌, length, take, drop, Option, Some, None, refl, sym, ap, subst, ◌∙◌, append_assoc, arith, inl, inr, length-append, Width, w16, w64, byte_len, from_be_bytes, is_utf8, cases_lt, le-ltb, lt-ltb, ne_eqb, take-append-le, drop-append-le, take_all, take-append-add, Kind, Text, Binary, Opcode, Continuation, Begins, Close, Ping, Pong, Reserved, unmasked, Opening, is_final, opcode_of, is_masked, seven_bits, octets_at, number_at, size_at, key_at, with_key, with_size, is_text_front, Event, message, failed, Begun, Front, more, ends, opens, gives, is_text, refuses_first, refuses_second, is_over, part_is, breach, data_front, frame_front, body_front, unless_breach, front_at, events_from, reads}
 use Rattle.wire_meaning.proofs.TextFront.{not_front}
 use Rattle.wire_meaning.proofs.MaskLemmas.{unmasked-append}
 use Rattle.wire_meaning.proofs.ReadingLemmas.{Shorter, front_shorter, reads_is, parts_front}

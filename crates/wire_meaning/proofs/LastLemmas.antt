@@ -1,7 +1,5 @@
 -- Nothing follows a Close or a Failed.
-use Rattle.std.proofs.Common.{◌≡◌, ℕ, true, false, List, [], ◌∷◌, ◌++◌, Option}
-use Rattle.wire_meaning.specs.Event.{Event, is_last}
-use Rattle.wire_meaning.specs.Reading.{Begun, reads}
+use Rattle.wire_meaning.proofs.Below.{◌≡◌, ℕ, true, false, List, [], ◌∷◌, ◌++◌, Option, Event, is_last, Begun, reads}
 use Rattle.wire_meaning.proofs.ReadingLemmas.{reads_by}
 
 -- wherever a last event stands, the list ends

@@ -7,3 +7,5 @@ pub mod GrowthLemmas
 pub mod LastLemmas
 pub mod FrameLemmas
 pub mod SentLemmas
+pub mod Below
+pub mod All

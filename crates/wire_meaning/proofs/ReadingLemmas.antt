@@ -1,22 +1,5 @@
 -- The reading, frame by frame, what each frame can give, and that the reading's bound is none.
-use Rattle.std.specs.Prelude.{not, ◌==◌, ◌||◌, nat_le, IsUtf8}
-use Rattle.std.proofs.Common.{◌≡◌, ℕ, zero, suc, ◌+◌, ◌^◌, ◌<◌, ◌≤◌, Bool, true, false, cond, nat_lt, ◌&&◌, List, [], ◌∷◌, ◌++◌, length, take, drop, Option, Some, None, refl, sym, ap, subst, ◌∙◌, append_assoc, arith, inl, inr, length-append, length-drop, length-take}
-use Rattle.std.proofs.lemmas.Bool.{cond_both, cases_lt, ne_eqb, le-leb, not-false}
-use Rattle.std.proofs.lemmas.Bool.Decides.{nat_tests}
-use Rattle.std.proofs.lemmas.List.{append-nil}
-use Rattle.std.proofs.lemmas.Str.{IsUtf8-from_is_utf8}
-use Rattle.std.specs.Int.{Width, w16, w64, byte_len}
-use Rattle.std.specs.Str.{is_utf8}
-use Rattle.ws_kinds.specs.declared.kind.Kind.{Kind}
-use Rattle.ws_kinds.specs.declared.kind.Kind.TheVariants.{Text, Binary}
-use Rattle.wire_meaning.specs.declared.frame.Opcode.{Opcode}
-use Rattle.wire_meaning.specs.declared.frame.Opcode.TheVariants.{Continuation, Begins, Close, Ping, Pong, Reserved}
-use Rattle.wire_meaning.specs.Mask.{unmasked}
-use Rattle.wire_meaning.specs.Frame.{Opening, opening, is_final, opcode_of, is_masked, seven_bits, octets_at, number_at, size_at, key_at, with_key, with_size}
-use Rattle.wire_meaning.specs.Text.{is_text_front}
-use Rattle.wire_meaning.specs.Event.{Event, message, ping, pong, closed, failed, closing, close_code, is_sendable, is_last}
-use Rattle.wire_meaning.specs.Reading.{Begun, Front, more, ends, opens, gives, is_text, is_data, is_control, begun_octets, refuses_first, refuses_second, is_over, part_is, parts_are, breach, data_front, frame_front, body_front, unless_breach, front_at, events_from, reads_within, reads}
-use Rattle.wire_meaning.specs.Bounds.{CanBeTold}
+use Rattle.wire_meaning.proofs.Below.{not, ◌==◌, ◌||◌, nat_le, IsUtf8, ◌≡◌, ℕ, zero, suc, ◌+◌, ◌^◌, ◌<◌, ◌≤◌, Bool, true, false, cond, nat_lt, ◌&&◌, List, [], ◌∷◌, ◌++◌, length, take, drop, Option, Some, None, refl, sym, ap, subst, ◌∙◌, append_assoc, arith, inl, inr, length-append, length-drop, length-take, cond_both, cases_lt, ne_eqb, le-leb, not-false, nat_tests, append-nil, IsUtf8-from_is_utf8, Width, w16, w64, byte_len, is_utf8, Kind, Text, Binary, Opcode, Continuation, Begins, Close, Ping, Pong, Reserved, unmasked, Opening, opening, is_final, opcode_of, is_masked, seven_bits, octets_at, number_at, size_at, key_at, with_key, with_size, is_text_front, Event, message, ping, pong, closed, failed, closing, close_code, is_sendable, is_last, Begun, Front, more, ends, opens, gives, is_text, is_data, is_control, begun_octets, refuses_first, refuses_second, is_over, part_is, parts_are, breach, data_front, frame_front, body_front, unless_breach, front_at, events_from, reads_within, reads, CanBeTold}
 use Rattle.wire_meaning.proofs.MaskLemmas.{length-unmasked}
 
 -- ---- each frame takes octets, and what it tells is sound

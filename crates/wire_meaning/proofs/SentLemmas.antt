@@ -1,16 +1,5 @@
 -- What a client sent is read as it was sent.
-use Rattle.std.specs.Prelude.{not, ◌==◌, IsUtf8, if◌then◌else◌}
-use Rattle.std.proofs.Common.{◌≡◌, ℕ, Bool, true, false, cond, List, [], ◌∷◌, ◌++◌, length, drop, Option, None, refl, ◌∙◌, ◌<◌, ◌^◌, suc, arith}
-use Rattle.std.specs.Str.{is_utf8}
-use Rattle.std.proofs.lemmas.Bool.{ne_eqb, cond_both}
-use Rattle.std.proofs.lemmas.Nat.{from_be_bytes-to_be_bytes_2}
-use Rattle.std.specs.Int.{w16, to_be_bytes}
-use Rattle.std.proofs.lemmas.Str.{is_utf8-from_IsUtf8}
-use Rattle.ws_kinds.specs.declared.kind.Kind.TheVariants.{Text, Binary}
-use Rattle.wire_meaning.specs.declared.frame.Opcode.TheVariants.{Continuation, Begins, Close, Ping, Pong, Reserved}
-use Rattle.wire_meaning.specs.Event.{Event, failed, closed, closing, is_last, is_sendable, close_code}
-use Rattle.wire_meaning.specs.Reading.{Begun, frame_front, events_from, reads, reading}
-use Rattle.wire_meaning.specs.Answer.{Sent, sent_octets, event_of, KeepsRules}
+use Rattle.wire_meaning.proofs.Below.{not, ◌==◌, IsUtf8, if◌then◌else◌, ◌≡◌, ℕ, Bool, true, false, cond, List, [], ◌∷◌, ◌++◌, length, drop, Option, None, refl, ◌∙◌, ◌<◌, ◌^◌, suc, arith, is_utf8, ne_eqb, cond_both, from_be_bytes-to_be_bytes_2, w16, to_be_bytes, is_utf8-from_IsUtf8, Text, Binary, Continuation, Begins, Close, Ping, Pong, Reserved, Event, failed, closed, closing, is_last, is_sendable, close_code, Begun, frame_front, events_from, reads, reading, Sent, sent_octets, event_of, KeepsRules}
 use Rattle.wire_meaning.proofs.TextLemmas.{front_of_text}
 use Rattle.wire_meaning.proofs.FrameLemmas.{reads-frame}
 

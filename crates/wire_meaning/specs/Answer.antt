@@ -22,10 +22,13 @@ spelled (whole opcode payload) = frame true opcode payload
 abbrev pub all_spelled : List Item → List ℕ
 all_spelled items = flat_map spelled items
 
--- A close frame with the code alone, and an empty one for 1005, which may not be sent (7.4.1). That no reason is sent
--- back with the code is this server's choice (5.5.1).
+-- the payload of a close frame with the code alone: the code in network order, and nothing for 1005, which may not be sent (7.4.1)
+abbrev pub close_body : ℕ → List ℕ
+close_body code = if code == 1005 then [] else to_be_bytes w16 code
+
+-- A close frame with the code alone. That no reason is sent back with the code is this server's choice (5.5.1).
 abbrev pub close_item : ℕ → Item
-close_item code = whole Close (if code == 1005 then [] else to_be_bytes w16 code)
+close_item code = whole Close (close_body code)
 
 -- what an echo answers to an event: a message by itself, a ping by a pong with its payload (5.5.3), a pong by
 -- nothing, and a close or a failure by the close frame with its code (5.5.1 and 7.1.7)

@@ -6,3 +6,4 @@ pub mod Reading
 pub mod Answer
 pub mod Bounds
 pub mod View
+pub mod All

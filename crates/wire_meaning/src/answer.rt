@@ -2,12 +2,13 @@
 
 ghost use Rattle.std.specs.Prelude.{◌≡◌, true, ◌++◌, IfOk, OnOk};
 ghost use Rattle.wire_meaning.specs.Frame.{size_octets, frame};
-ghost use Rattle.wire_meaning.specs.Answer.{spelled, all_spelled, close_item, answers, echoed};
+ghost use Rattle.wire_meaning.specs.Answer.{spelled, all_spelled, close_body, close_item, answers, echoed};
 ghost use Rattle.wire_meaning.specs.View.{event_view};
 
 use crate::event::OwnedEvent;
 use crate::frame::{Opcode, opcode_number};
 use crate::reading::plain_reading;
+use arrayvec::ArrayVec;
 use std::alloc::{AllocError, Global};
 
 /// Puts the second octet of an unmasked frame, with the octets of the length behind it, behind those that are there.
@@ -38,14 +39,24 @@ fn push_frame(out: &mut Vec<u8>, opcode: Opcode, payload: &[u8]) -> Result<(), A
     Ok(())
 }
 
-/// Puts a close frame with this code, an empty one for 1005, behind the octets that are there.
+/// The payload of a close frame with this code and no reason: the code in network order, and nothing for 1005, which may not
+/// be sent (RFC 6455, sections 5.5.1 and 7.4.1).
+pub fn close_body(code: u16) -> ArrayVec<u8, 2>
+    ensures { result.items ≡ close_body code }
+{
+    let mut body = ArrayVec::new();
+    if code == 1005 {
+        return body;
+    }
+    body.try_extend_from_slice(&code.to_be_bytes()).unwrap();
+    body
+}
+
+/// Puts a close frame with this code alone behind the octets that are there.
 fn push_close(out: &mut Vec<u8>, code: u16) -> Result<(), AllocError>
     ensures { OnOk result (out.new.items ≡ out.old.items ++ spelled (close_item code)) }
 {
-    if code == 1005 {
-        return push_frame(out, Opcode::Close, &[]);
-    }
-    push_frame(out, Opcode::Close, &code.to_be_bytes())
+    push_frame(out, Opcode::Close, &close_body(code))
 }
 
 /// Puts the frames that answer an event behind the octets that are there.

@@ -40,7 +40,7 @@ pub fn is_sendable(code: u16) -> bool
 }
 
 /// Whether the octets are UTF-8, as a text and the reason of a close have to be (RFC 6455, section 8.1).
-#[tactic(auto, using(crate::proofs::TextLemmas::utf8_tests))]
+#[tactic(auto, using(ws_kinds::proofs::TextLemmas::utf8_tests))]
 pub fn is_utf8(octets: &[u8]) -> bool
     ensures { result ≡ is_utf8 octets.now }
 {

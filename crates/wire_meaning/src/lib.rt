@@ -7,7 +7,7 @@
 //! The crates above share the decoders of a frame's header: [`is_final`], [`has_reserved_bit`] and [`opcode_of`] read its
 //! first octet, [`is_masked`] and [`seven_bits`] the second, and [`size_at`] the length. [`is_reserved`], [`is_control`] and
 //! [`is_data`] say what an opcode is for, and [`opcode_number`] is its number. [`is_sendable`] and [`is_utf8`] test the code and
-//! the reason of a close.
+//! the reason of a close, and [`close_body`] is the payload of one that is sent without a reason.
 //!
 //! The functions of the module `laws` have empty bodies. Their contracts are the laws of the definitions.
 #![tactic(auto)]
@@ -19,7 +19,7 @@ mod laws;
 mod opening;
 mod reading;
 
-pub use answer::plain_echo;
+pub use answer::{close_body, plain_echo};
 pub use event::{OwnedEvent, is_sendable, is_utf8};
 pub use frame::{
     Opcode, has_reserved_bit, is_control, is_data, is_final, is_masked, is_reserved, opcode_number,

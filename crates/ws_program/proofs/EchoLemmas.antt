@@ -1,27 +1,9 @@
 -- What an echo did so far: the octets that came, and what is still ahead of the reader.
-use Rattle.std.specs.Prelude.{◌||◌}
-use Rattle.std.specs.List.{list_any}
-use Rattle.std.proofs.Common.{◌≡◌, ℕ, ◌+◌, ◌≤◌, Bool, true, false, List, [], ◌∷◌, ◌++◌, length, take, Option, None, refl, sym, ap, subst, ◌∙◌, append_assoc, append-nil, arith, length-append, length-take, inr}
-use Rattle.std.proofs.lemmas.List.{take-append-le, length-take-le}
-use Rattle.std.specs.Io.KnownBytes.{Appends, Consumes}
-use Rattle.std.proofs.KnownBytes.{Appends-nil, Appends-trans, Consumes-nil, Consumes-trans}
-use Rattle.link_trait.specs.Sink.{AppendsFront}
-use Rattle.wire_meaning.specs.Event.{Event, is_last}
-use Rattle.wire_meaning.specs.Reading.{reading}
-use Rattle.wire_meaning.specs.Answer.{echoed}
-use Rattle.wire_meaning.proofs.ReadingLemmas.{reads_is}
+use Rattle.ws_program.proofs.Below.{◌||◌, list_any, ◌≡◌, ℕ, ◌+◌, ◌≤◌, Bool, true, false, List, [], ◌∷◌, ◌++◌, length, take, Option, None, refl, sym, ap, subst, ◌∙◌, append_assoc, append-nil, arith, length-take, inr, take-append-le, length-take-le, Appends, Consumes, Appends-nil, Appends-trans, Consumes-nil, Consumes-trans, AppendsFront, Event, is_last, reading, echoed, reads_is, Reader, ahead, room_of, raw_of, AreShort, answers_to, Status, Done, Usage, Refused, ReadFault, WriteFault, OutOfMemory, TooLong, has_ended, EchoesFront, EndsDone, EndsTooLong, ReadsNoFurther, EndsPast, reading_short}
+use Rattle.std.proofs.Common.{length-append}
 use Rattle.wire_meaning.proofs.LastLemmas as last
-use Rattle.frame_reader.specs.declared.reader.Reader.{Reader}
 use Rattle.frame_reader.specs.Reader as readers
-use Rattle.frame_reader.specs.Reader.{ahead, room_of, raw_of}
-use Rattle.wire_meaning.specs.Bounds.{AreShort}
-use Rattle.ws_program.specs.Answers.{answers_to}
-use Rattle.ws_program.specs.declared.status.Status.{Status}
-use Rattle.ws_program.specs.declared.status.Status.TheVariants.{Done, Usage, Refused, ReadFault, WriteFault, OutOfMemory}
-use Rattle.schedule_text.specs.declared.fault.Fault.TheVariants.{TooLong}
-use Rattle.ws_program.specs.Echo.{has_ended, EchoesFront, EndsDone, EndsTooLong, ReadsNoFurther, EndsPast}
 use Rattle.ws_program.proofs.EventLemmas.{answers_to-append, short_rest, some_of_both, none_of_both}
-use Rattle.wire_meaning.proofs.BoundLemmas.{reading_short}
 
 -- these octets came, and all that they tell was told
 pub record Stands (max : ℕ) (came : List ℕ) (reader : Reader) : Type 0 where

@@ -1,20 +1,9 @@
 -- How a run over a net in memory ends, by its answers.
-use Rattle.std.proofs.Common.{◌≡◌, ◌<◌, ◌≤◌, ◌+◌, ◌-◌, ◌^◌, ℕ, zero, suc, List, [], ◌∷◌, ◌++◌, Bool, true, false, cond, ◌&&◌, length, take, refl, sym, ap, ◌∙◌, subst, append-nil, arith}
-use Rattle.std.specs.List.{list_all, count_by}
-use Rattle.std.proofs.lemmas.List.Recursion.{is_count_by}
-use Rattle.link_trait.specs.declared.net.NetEvent.{NetEvent}
+use Rattle.ws_program.proofs.Below.{◌≡◌, ◌<◌, ◌≤◌, ◌+◌, ◌-◌, ◌^◌, ℕ, zero, suc, List, [], ◌∷◌, ◌++◌, Bool, true, false, cond, ◌&&◌, length, take, refl, sym, ap, ◌∙◌, subst, append-nil, arith, list_all, count_by, is_count_by, NetEvent, Act, passes, MemNetState, FollowsSchedule, net_state, is_rest, NetState, number_of, GrowsBy, goes_on, Runs, is_turn_act, and_left, and_right}
 use Rattle.link_trait.specs.declared.net.NetEvent.TheVariants as event
-use Rattle.link_trait.specs.declared.act.Act.{Act}
 use Rattle.link_trait.specs.declared.act.Act.TheVariants as act
-use Rattle.mem_net.specs.Acts.{passes}
-use Rattle.mem_net.specs.MemNet.{MemNetState, FollowsSchedule, net_state}
-use Rattle.link_trait.specs.Net.{is_rest}
-use Rattle.link_trait.specs.NetState.{NetState}
-use Rattle.run_meaning.specs.Counts.{number_of}
 use Rattle.loop_runner.specs.declared.turns.Ran.TheVariants as ran
-use Rattle.loop_runner.specs.Turns.{GrowsBy, goes_on, Runs}
-use Rattle.ws_program.specs.Replayed.{is_turn_act}
-use Rattle.ws_program.proofs.StopLemmas.{is_going, and_left, and_right, plain_passed, all_answers, stop_done, stop_passed}
+use Rattle.ws_program.proofs.StopLemmas.{is_going, plain_passed, all_answers, stop_done, stop_passed}
 
 one_more : (k : ℕ) → suc k ≡ 1 + k
 one_more k = omega arith

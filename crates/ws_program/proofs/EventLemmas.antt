@@ -1,23 +1,11 @@
 -- Events that are told of a reader, and their answers.
-use Rattle.std.specs.Prelude.{◌||◌}
-use Rattle.std.specs.List.{list_any}
-use Rattle.std.proofs.Common.{◌≡◌, ℕ, suc, Bool, true, false, List, [], ◌∷◌, ◌++◌, length, flat_map, Option, None, Some, refl, sym, ap, subst, ◌∙◌, append_assoc, append-nil, arith}
-use Rattle.std.proofs.lemmas.Grind.{flat_map-append}
-use Rattle.std.proofs.lemmas.List.Folds.{list_any-append}
-use Rattle.link_trait.specs.Sink.{AppendsFront}
+use Rattle.ws_program.proofs.Below.{◌||◌, list_any, ◌≡◌, ℕ, suc, Bool, true, false, List, [], ◌∷◌, ◌++◌, length, Option, None, Some, refl, sym, ap, subst, ◌∙◌, append_assoc, append-nil, arith, flat_map-append, list_any-append, AppendsFront, Event, is_last, spelled, answers, Step, Reader, ahead, events_of, HasStepped, Answered, AreShort, Passes, Answers, GoesOn, AnswersStep, AnswersNext, AnswersAll, answers_to, or_false}
+use Rattle.std.proofs.Common.{flat_map}
 use Rattle.wire_meaning.specs.Event as event
-use Rattle.wire_meaning.specs.Event.{Event, is_last}
-use Rattle.wire_meaning.specs.Answer.{spelled, answers}
-use Rattle.frame_reader.specs.declared.step.Step.{Step}
 use Rattle.frame_reader.specs.declared.step.Step.TheVariants as step
-use Rattle.frame_reader.specs.declared.reader.Reader.{Reader}
-use Rattle.frame_reader.specs.Reader.{ahead, has_ended}
+use Rattle.frame_reader.specs.Reader.{has_ended}
 use Rattle.frame_reader.specs.Step as steps
-use Rattle.frame_reader.specs.Step.{events_of, HasStepped}
-use Rattle.ws_program.specs.declared.answers.Answered.{Answered}
 use Rattle.ws_program.specs.declared.answers.Answered.TheVariants as answered
-use Rattle.wire_meaning.specs.Bounds.{AreShort}
-use Rattle.ws_program.specs.Answers.{Passes, Answers, GoesOn, AnswersStep, AnswersNext, AnswersAll, answers_to}
 use Rattle.ws_program.proofs.PassLemmas.{passes_nothing, passes_then, front_of_more, front_behind}
 
 pub answers_to-append : (xs ys : List Event) → answers_to (xs ++ ys) ≡ answers_to xs ++ answers_to ys
@@ -25,19 +13,11 @@ answers_to-append xs ys = ap (flat_map spelled) (flat_map-append answers xs ys) 
 
 -- ---- short events
 
-pub short_front : (most : ℕ) (xs ys : List Event) → AreShort most (xs ++ ys) → AreShort most xs
-short_front most [] ys h = tt
-short_front most (x ∷ xs) ys (h, t) = (h, short_front most xs ys t)
-
 pub short_rest : (most : ℕ) (xs ys : List Event) → AreShort most (xs ++ ys) → AreShort most ys
 short_rest most [] ys h = h
 short_rest most (x ∷ xs) ys (h, t) = short_rest most xs ys t
 
 -- ---- one after another
-
-or_false : (b : Bool) → (b || false) ≡ b
-or_false true = refl
-or_false false = refl
 
 pub none_of_both : (xs ys : List Event) → list_any is_last xs ≡ false → list_any is_last ys ≡ false → list_any is_last (xs ++ ys) ≡ false
 none_of_both xs ys p q = list_any-append is_last xs ys ∙ ap (λ b. b || list_any is_last ys) p ∙ q
@@ -67,18 +47,12 @@ front_then a b xs w v u held mid first front =
 
 pub answers_all_then : (result : Answered) (a b c : Reader) (xs : List Event) (w v u : Option (List ℕ)) (held mid held' : List ℕ) → Answers a b xs w v held mid → GoesOn a b xs
     → AnswersAll result b c v u mid held' → AnswersAll result a c w u held held'
+answers_all_then answered.One a b c xs w v u held mid held' first goes never = absurd never
 answers_all_then answered.All a b c xs w v u held mid held' first goes (ys, second, on, all, few) =
     (xs ++ ys, answers_then a b c xs ys w v u held mid held' first second, goes_on_then a b c xs ys goes on, all, λ start. few (goes.goes_on start))
 answers_all_then answered.Closed a b c xs w v u held mid held' first goes (ys, second, last) =
     (xs ++ ys, answers_then a b c xs ys w v u held mid held' first second, some_of_both xs ys goes.none_last last)
 answers_all_then answered.Failed a b c xs w v u held mid held' first goes front = front_then a b xs w v u held mid first front
-
--- nothing was told or done so far
-pub answers_none : (a : Reader) (w : Option (List ℕ)) (held : List ℕ) → Answers a a [] w w held held
-answers_none a w held = record { tells = λ more. refl; passes = passes_nothing w held }
-
-pub goes_on_none : (a : Reader) → GoesOn a a []
-goes_on_none a = record { none_last = refl; goes_on = λ start. start }
 
 -- what is still ahead is short
 pub short_after : (old new : Reader) (xs : List Event) (w w' : Option (List ℕ)) (held held' : List ℕ) → Answers old new xs w w' held held' → AreShort 65536 (ahead old []) → AreShort 65536 (ahead new [])
@@ -95,7 +69,7 @@ one_event s e old new w w' held held' is stepped passes = record {
 }
 
 next_event : (s : Step) (e : Event) (old new : Reader) (w w' : Option (List ℕ)) (held held' : List ℕ) → events_of s ≡ e ∷ [] → is_last e ≡ false → steps.is_last s ≡ false
-    → HasStepped old s new → Passes w w' held held' (answers_to (events_of s)) → AnswersNext None old new w w' held held'
+    → HasStepped old s new → Passes w w' held held' (answers_to (events_of s)) → AnswersNext answered.One old new w w' held held'
 next_event s e old new w w' held held' is goes same stepped passes =
     let longer : length (ahead old []) ≡ suc (length (ahead new [])) = ap length (stepped.events [] ∙ ap (λ (events : List Event). events ++ ahead new []) is) in (
       e,
@@ -107,7 +81,7 @@ next_event s e old new w w' held held' is goes same stepped passes =
       omega (arith, longer),
     )
 
-goes_step : (s : Step) (old new : Reader) (w w' : Option (List ℕ)) (held held' : List ℕ) → HasStepped old s new → AnswersStep None s w w' held held' → AnswersNext None old new w w' held held'
+goes_step : (s : Step) (old new : Reader) (w w' : Option (List ℕ)) (held held' : List ℕ) → HasStepped old s new → AnswersStep answered.One s w w' held held' → AnswersNext answered.One old new w w' held held'
 goes_step step.More old new w w' held held' stepped (goes, some, passes) = absurd (some tt)
 goes_step (step.Message kind octets) old new w w' held held' stepped (goes, some, passes) = next_event (step.Message kind octets) (event.message kind octets.now) old new w w' held held' refl refl refl stepped passes
 goes_step (step.Ping payload) old new w w' held held' stepped (goes, some, passes) = next_event (step.Ping payload) (event.ping payload.now) old new w w' held held' refl refl refl stepped passes
@@ -115,7 +89,7 @@ goes_step (step.Pong payload) old new w w' held held' stepped (goes, some, passe
 goes_step (step.Close code reason) old new w w' held held' stepped (goes, some, passes) = absurd cc
 goes_step (step.Failed code) old new w w' held held' stepped (goes, some, passes) = absurd cc
 
-all_step : (s : Step) (old new : Reader) (w w' : Option (List ℕ)) (held held' : List ℕ) → HasStepped old s new → AnswersStep (Some answered.All) s w w' held held'
+all_step : (s : Step) (old new : Reader) (w w' : Option (List ℕ)) (held held' : List ℕ) → HasStepped old s new → AnswersStep answered.All s w w' held held'
     → AnswersAll answered.All old new w w' held held'
 all_step step.More old new w w' held held' stepped (is, wrote, kept) = (
   [],
@@ -133,7 +107,7 @@ all_step (step.Pong payload) old new w w' held held' stepped (is, wrote, kept) =
 all_step (step.Close code reason) old new w w' held held' stepped (is, wrote, kept) = absurd is
 all_step (step.Failed code) old new w w' held held' stepped (is, wrote, kept) = absurd is
 
-last_step : (s : Step) (old new : Reader) (w w' : Option (List ℕ)) (held held' : List ℕ) → HasStepped old s new → AnswersStep (Some answered.Closed) s w w' held held'
+last_step : (s : Step) (old new : Reader) (w w' : Option (List ℕ)) (held held' : List ℕ) → HasStepped old s new → AnswersStep answered.Closed s w w' held held'
     → AnswersAll answered.Closed old new w w' held held'
 last_step step.More old new w w' held held' stepped (last, passes) = absurd cc
 last_step (step.Message kind octets) old new w w' held held' stepped (last, passes) = absurd cc
@@ -144,19 +118,19 @@ last_step (step.Close code reason) old new w w' held held' stepped (last, passes
 last_step (step.Failed code) old new w w' held held' stepped (last, passes) =
     (event.failed code ∷ [], one_event (step.Failed code) (event.failed code) old new w w' held held' refl stepped passes, refl)
 
-failed_step : (s : Step) (old new : Reader) (w w' : Option (List ℕ)) (held held' : List ℕ) → HasStepped old s new → AnswersStep (Some answered.Failed) s w w' held held'
+failed_step : (s : Step) (old new : Reader) (w w' : Option (List ℕ)) (held held' : List ℕ) → HasStepped old s new → AnswersStep answered.Failed s w w' held held'
     → AnswersAll answered.Failed old new w w' held held'
 failed_step s old new w w' held held' stepped front =
     subst (λ (octets : List ℕ). AppendsFront w w' (held ++ octets)) (sym (ap answers_to (stepped.events []) ∙ answers_to-append (events_of s) (ahead new [])))
     (subst (AppendsFront w w') (append_assoc held (answers_to (events_of s)) (answers_to (ahead new [])))
     (front_of_more w w' (held ++ answers_to (events_of s)) (answers_to (ahead new [])) front))
 
-pub next_step : (result : Option Answered) (s : Step) (old new : Reader) (w w' : Option (List ℕ)) (held held' : List ℕ) → HasStepped old s new → AnswersStep result s w w' held held'
+pub next_step : (result : Answered) (s : Step) (old new : Reader) (w w' : Option (List ℕ)) (held held' : List ℕ) → HasStepped old s new → AnswersStep result s w w' held held'
     → AnswersNext result old new w w' held held'
-next_step None s old new w w' held held' stepped h = goes_step s old new w w' held held' stepped h
-next_step (Some answered.All) s old new w w' held held' stepped h = all_step s old new w w' held held' stepped h
-next_step (Some answered.Closed) s old new w w' held held' stepped h = last_step s old new w w' held held' stepped h
-next_step (Some answered.Failed) s old new w w' held held' stepped h = failed_step s old new w w' held held' stepped h
+next_step answered.One s old new w w' held held' stepped h = goes_step s old new w w' held held' stepped h
+next_step answered.All s old new w w' held held' stepped h = all_step s old new w w' held held' stepped h
+next_step answered.Closed s old new w w' held held' stepped h = last_step s old new w w' held held' stepped h
+next_step answered.Failed s old new w w' held held' stepped h = failed_step s old new w w' held held' stepped h
 
 -- ---- octets that came
 
@@ -176,6 +150,7 @@ fault_front a mid new octets events w v u held held' empty fed told front =
 pub octets_fault : (result : Answered) (a mid new : Reader) (octets : List ℕ) (w v u : Option (List ℕ)) (held held' : List ℕ) → (result ≡ answered.Failed → ⊥) → held ≡ []
     → ((more : List ℕ) → ahead mid more ≡ ahead a (octets ++ more)) → AnswersAll result mid new w v held held' → AppendsFront v u held'
     → AppendsFront w u (answers_to (ahead a octets))
+octets_fault answered.One a mid new octets w v u held held' good empty fed never front = absurd never
 octets_fault answered.All a mid new octets w v u held held' good empty fed (events, told, on, all, few) front =
     fault_front a mid new octets events w v u held held' empty fed told front
 octets_fault answered.Closed a mid new octets w v u held held' good empty fed (events, told, last) front =

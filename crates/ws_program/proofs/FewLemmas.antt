@@ -1,14 +1,6 @@
 -- Each note sends at most one item to a connection, and the note of a turn none.
-use Rattle.std.proofs.Common.{◌≡◌, ◌<◌, ◌≤◌, ◌+◌, ◌-◌, ◌^◌, ℕ, suc, List, [], ◌∷◌, ◌++◌, Bool, true, false, cond, not, ◌&&◌, Option, Some, None, length, nat_eq, refl, sym, ap, ◌∙◌, subst, append-nil, arith}
-use Rattle.std.proofs.lemmas.List.{length-append}
-use Rattle.ws_kinds.specs.declared.note.Phase.{Phase}
-use Rattle.ws_kinds.specs.declared.note.Phase.TheVariants.{Head, Open, Leaving, Ending, Gone}
+use Rattle.ws_program.proofs.Below.{◌≡◌, ◌<◌, ◌≤◌, ◌+◌, ◌-◌, ◌^◌, ℕ, suc, List, [], ◌∷◌, ◌++◌, Bool, true, false, cond, not, ◌&&◌, Option, Some, None, length, nat_eq, refl, sym, ap, ◌∙◌, subst, append-nil, arith, length-append, Phase, Head, Open, Leaving, Ending, Gone, NoteValue, is_of, window, sends, data_frame, plain, is_refused, route_after, echo_server, EchoLine, echo_own, echo_after, echo_lines, echo_start, sent_back, world_view}
 use Rattle.ws_kinds.specs.NoteValue as note
-use Rattle.ws_kinds.specs.NoteValue.{NoteValue}
-use Rattle.run_meaning.specs.Notes.{is_of, window}
-use Rattle.run_meaning.specs.Lines.{sends, data_frame, plain, is_refused, route_after}
-use Rattle.run_meaning.specs.Echo.{echo_server, EchoLine, echo_own, echo_after, echo_lines, echo_start, sent_back}
-use Rattle.run_meaning.proofs.EchoLemmas.{world_view}
 
 none_sent : 0 ≤ 1
 none_sent = omega arith
@@ -22,17 +14,10 @@ back_one k b false = none_sent
 
 -- what a note sends, with what answers it
 own_one : (text : List ℕ) (p : Option Phase) (r : ℕ) (u : Bool) (n : NoteValue) → length (sends text p n ++ sent_back r u n) ≤ 1
-own_one text p r u note.turn = none_sent
-own_one text p r u note.tick = none_sent
-own_one text p r u (note.accepted c) = none_sent
-own_one text p r u (note.busy c) = none_sent
-own_one text p r u (note.no_room c) = none_sent
-own_one text p r u (note.given c k) = none_sent
 own_one text p r u (note.head c s) = one_sent
 own_one text p r u (note.opened c i q) = one_sent
 own_one text p r u (note.message c k b) = back_one k b (nat_eq r 0 && not u)
 own_one text p r u (note.ping_got c b) = one_sent
-own_one text p r u (note.pong_got c b) = none_sent
 own_one text None r u (note.peer_close c k b) = none_sent
 own_one text (Some Head) r u (note.peer_close c k b) = none_sent
 own_one text (Some Open) r u (note.peer_close c k b) = one_sent
@@ -45,13 +30,8 @@ own_one text (Some Open) r u (note.failed c k) = one_sent
 own_one text (Some Leaving) r u (note.failed c k) = none_sent
 own_one text (Some Ending) r u (note.failed c k) = none_sent
 own_one text (Some Gone) r u (note.failed c k) = none_sent
-own_one text p r u (note.took c o k) = none_sent
-own_one text p r u (note.dropped c i h) = none_sent
-own_one text p r u (note.unserved c o w) = none_sent
 own_one text p r u (note.pinged c) = one_sent
-own_one text p r u (note.told c k d) = none_sent
-own_one text p r u (note.closed c k b) = none_sent
-own_one text p r u (note.gone c l) = none_sent
+own_one text p r u _ = none_sent
 
 after_one : (text : List ℕ) (u z : Bool) (n : NoteValue) (l : EchoLine) → length (cond z (echo_own text u n l) l).items ≤ length l.items + 1
 after_one text u true n l =

@@ -10,3 +10,5 @@ pub mod FewLemmas
 pub mod StopLemmas
 pub mod EndLemmas
 pub mod ReplayedLemmas
+pub mod Below
+pub mod All

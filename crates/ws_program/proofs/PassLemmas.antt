@@ -1,10 +1,5 @@
 -- Octets that pass through those held: a front is written, and the rest is held.
-use Rattle.std.proofs.Common.{◌≡◌, ℕ, List, [], ◌++◌, Option, None, Some, sym, ap, subst, ◌∙◌, append_assoc, append-nil}
-use Rattle.std.specs.Io.KnownBytes.{Appends}
-use Rattle.std.proofs.KnownBytes.{Appends-nil, Appends-trans}
-use Rattle.link_trait.specs.Link.{TellsAlike}
-use Rattle.link_trait.specs.Sink.{AppendsFront}
-use Rattle.ws_program.specs.Answers.{Passes}
+use Rattle.ws_program.proofs.Below.{◌≡◌, ℕ, List, [], ◌++◌, Option, None, Some, sym, ap, subst, ◌∙◌, append_assoc, append-nil, Appends, Appends-nil, Appends-trans, TellsAlike, AppendsFront, Passes}
 
 pub tells_alike_same : (told : Option (List ℕ)) → TellsAlike told told
 tells_alike_same None = tt
@@ -17,18 +12,6 @@ tells_alike_unmoved old new same = subst (TellsAlike old) (sym same) (tells_alik
 
 pub passes_nothing : (written : Option (List ℕ)) (held : List ℕ) → Passes written written held held []
 passes_nothing written held = ([], Appends-nil written, append-nil held)
-
-pub passes_all : (written written' : Option (List ℕ)) (held held' : List ℕ) → Appends written written' held → held' ≡ [] → Passes written written' held held' []
-passes_all written written' held held' wrote empty = (held, wrote, ap (λ rest. held ++ rest) (sym empty))
-
--- the octets of a frame are put behind what is held
-pub passes_frame : (written written' : Option (List ℕ)) (held mid mid' held' head header payload : List ℕ) → Passes written written' held mid []
-    → head ≡ header → mid' ≡ mid ++ head → held' ≡ mid' ++ payload → Passes written written' held held' (header ++ payload)
-passes_frame written written' held mid mid' held' head header payload (sent, wrote, split) is first second =
-    let behind : held ++ (header ++ payload) ≡ (sent ++ mid) ++ (header ++ payload) = ap (λ l. l ++ (header ++ payload)) (sym (append-nil held) ∙ split) in
-    let joined : mid ++ (header ++ payload) ≡ held' =
-    sym (append_assoc mid header payload) ∙ ap (λ l. (mid ++ l) ++ payload) (sym is) ∙ ap (λ l. l ++ payload) (sym first) ∙ sym second in
-    (sent, wrote, behind ∙ append_assoc sent mid (header ++ payload) ∙ ap (λ l. sent ++ l) joined)
 
 pub passes_then : (w v u : Option (List ℕ)) (held mid held' first second : List ℕ) → Passes w v held mid first → Passes v u mid held' second
     → Passes w u held held' (first ++ second)

@@ -1,34 +1,9 @@
 -- What was read of a text can be run.
-use Rattle.std.proofs.Common.{◌≡◌, ◌≤◌, ◌<◌, ◌+◌, ◌++◌, ◌&&◌, ℕ, List, [], ◌∷◌, Some, None, true, length, refl, ◌⊎◌, inl, inr, Option, append-nil, subst, ap, ◌∙◌, arith, rules}
-use Rattle.std.specs.List.{list_all, AllByRecursion, flat_map}
-use Rattle.std.proofs.lemmas.List.{length-append}
-use Rattle.mem_net.specs.Schedule.{is_plain}
-use Rattle.link_trait.specs.declared.act.Act.{Act}
+use Rattle.ws_program.proofs.Below.{◌≡◌, ◌≤◌, ◌<◌, ◌+◌, ◌++◌, ◌&&◌, ℕ, List, [], ◌∷◌, Some, None, true, length, refl, ◌⊎◌, inl, inr, Option, append-nil, subst, ap, ◌∙◌, arith, rules, list_all, AllByRecursion, flat_map, length-append, is_plain, Act, header, HasLine, IsText, IsRefused, Fault, Consumes, IsAtEnd, ConfigValue, TellsAlike, Status, Done, Usage, Refused, ReadFault, WriteFault, OutOfMemory, CanRun, AnswersText, IsTaken, RefusesAs, ReplaysAll, ReplaysFront, IsRefusal, ReplayEnds, Streams, spelled_some}
 use Rattle.link_trait.specs.declared.act.Act.TheVariants as act
-use Rattle.schedule_text.specs.Spelling.{spelled, header, HasLine}
-use Rattle.schedule_text.specs.Reading.{IsText, IsRefused}
-use Rattle.schedule_text.specs.declared.fault.Fault.{Fault}
+use Rattle.schedule_text.specs.Spelling.{spelled}
 use Rattle.schedule_text.specs.declared.fault.Fault.TheVariants as fault
-use Rattle.std.specs.Io.KnownBytes.{Consumes, IsAtEnd}
-use Rattle.ws_kinds.specs.ConfigValue.{ConfigValue}
-use Rattle.link_trait.specs.Link.{TellsAlike}
-use Rattle.ws_program.specs.declared.status.Status.{Status}
-use Rattle.ws_program.specs.declared.status.Status.TheVariants.{Done, Usage, Refused, ReadFault, WriteFault, OutOfMemory}
-use Rattle.ws_program.specs.Replay.{CanRun, AnswersText, IsTaken, RefusesAs, ReplaysAll, ReplaysFront, IsRefusal, ReplayEnds}
-use Rattle.ws_program.specs.Streams.{Streams}
 use Rattle.ws_program.proofs.PassLemmas.{tells_alike_unmoved}
-
--- a line has at least one octet
-spelled_some : (act : Act) → 0 < length (spelled act)
-spelled_some (act.Arrive conn None) = omega arith
-spelled_some (act.Arrive conn (Some credit)) = omega arith
-spelled_some (act.Octets conn octets) = omega arith
-spelled_some (act.End conn) = omega arith
-spelled_some (act.ReadFails conn) = omega arith
-spelled_some (act.Room conn more) = omega arith
-spelled_some (act.WriteFails conn) = omega arith
-spelled_some act.Tick = omega arith
-spelled_some act.Turn = omega arith
 
 -- so there are no more acts than octets
 few_acts : (acts : List Act) → length acts ≤ length (flat_map spelled acts)

@@ -1,36 +1,9 @@
 -- What comes of the acts of a schedule, where a run over its net is right and settled.
-use Rattle.std.proofs.Common.{◌≡◌, ◌≢◌, ℕ, List, [], ◌∷◌, ◌++◌, Bool, true, false, cond, not, ◌&&◌, ◌||◌, ◌⊎◌, inl, inr, Option, Some, None, length, take, nat_eq, nat_lt, refl, sym, ap, ◌∙◌, subst, append-nil, arith}
-use Rattle.std.proofs.Math.Seq.{take-length}
-use Rattle.std.proofs.lemmas.Bool.Decides.{nat_tests}
-use Rattle.std.specs.List.{list_any}
-use Rattle.ws_kinds.specs.ConfigValue.{ConfigValue}
-use Rattle.ws_kinds.specs.declared.note.Left.{Left}
-use Rattle.ws_kinds.specs.declared.note.Left.TheVariants.{PeerEnd, LinkFailed}
-use Rattle.ws_kinds.specs.declared.note.Phase.{Phase}
-use Rattle.ws_kinds.specs.declared.note.Phase.TheVariants.{Head, Open, Leaving, Ending, Gone}
+use Rattle.ws_program.proofs.Below.{◌≡◌, ◌≢◌, ℕ, List, [], ◌∷◌, ◌++◌, Bool, true, false, cond, not, ◌&&◌, ◌||◌, ◌⊎◌, inl, inr, Option, Some, None, length, take, nat_eq, nat_lt, refl, sym, ap, ◌∙◌, subst, append-nil, arith, take-length, nat_tests, list_any, ConfigValue, Left, PeerEnd, LinkFailed, Phase, Head, Open, Leaving, Ending, Gone, NoteValue, Act, Finish, sent, finish_of, finish_by, or_then, is_end, is_fault, LinkState, is_ready, is_finish, has_arrived, is_ending, MemNetState, FollowsSchedule, net_state, link_at, not_there, RouteTable, is_of, window, is_gone_by, is_accepted, is_gone_by_in, moved, phase, is_refused, is_gone_phase, echo_server, EchoLine, echo_own, echo_after, echo_lines, echo_start, is_reading, Right, LivedThroughout, world_view, by_cases, clash, both_left, both_right, same_number, accepted_known, unaccepted_phase, IsReplayed, is_end_of, is_fault_of, or_second, or_first, gone_moved}
 use Rattle.ws_kinds.specs.NoteValue as note
-use Rattle.ws_kinds.specs.NoteValue.{NoteValue}
-use Rattle.link_trait.specs.declared.act.Act.{Act}
 use Rattle.link_trait.specs.declared.act.Act.TheVariants as act
-use Rattle.mem_net.specs.declared.mem_link.Finish.{Finish}
 use Rattle.mem_net.specs.declared.mem_link.Finish.TheVariants as finish
-use Rattle.mem_net.specs.Acts.{sent, finish_of, finish_by, or_then, is_end, is_fault}
-use Rattle.mem_net.specs.LinkState.{LinkState, is_ready, is_finish}
-use Rattle.mem_net.specs.Schedule.{has_arrived, is_ending}
-use Rattle.mem_net.specs.MemNet.{MemNetState, FollowsSchedule, net_state, link_at}
-use Rattle.mem_net.proofs.Acting.{not_there}
-use Rattle.route_table.specs.Table.{RouteTable}
-use Rattle.run_meaning.specs.Notes.{is_of, window, is_gone_by}
-use Rattle.run_meaning.specs.Counts.{is_accepted, is_gone_by_in}
-use Rattle.run_meaning.specs.Lines.{moved, phase, is_refused, is_gone_phase}
-use Rattle.run_meaning.specs.Echo.{echo_server, EchoLine, echo_own, echo_after, echo_lines, echo_start}
-use Rattle.run_meaning.specs.Settled.{Settled, is_reading}
-use Rattle.run_meaning.specs.Right.{Right}
-use Rattle.run_meaning.proofs.EchoLemmas.{world_view}
-use Rattle.hub_notes.proofs.BoolLemmas.{by_cases, clash}
-use Rattle.run_laws.proofs.WorldLemmas.{accepted_known}
-use Rattle.run_laws.proofs.WorldLemmas.{unaccepted_phase}
-use Rattle.ws_program.specs.Replayed.{IsReplayed, is_end_of, is_fault_of}
+use Rattle.run_meaning.specs.Settled.{Settled}
 
 -- ---- a connection that is gone stays so
 
@@ -54,28 +27,6 @@ lines_phases text d l (n ∷ ns) =
 
 phase_is : (replies : ℕ → List ℕ) (d : ℕ) (ns : List NoteValue) → phase (echo_server replies) ns d ≡ phases d ns None
 phase_is replies d ns = ap (λ (l : EchoLine). l.phase) (sym (world_view replies (replies d) d ns refl)) ∙ lines_phases (replies d) d echo_start ns
-
-gone_moved : (n : NoteValue) → moved (Some Gone) n ≡ Some Gone
-gone_moved note.turn = refl
-gone_moved note.tick = refl
-gone_moved (note.accepted c) = refl
-gone_moved (note.busy c) = refl
-gone_moved (note.no_room c) = refl
-gone_moved (note.given c k) = refl
-gone_moved (note.head c k) = refl
-gone_moved (note.opened c k p) = refl
-gone_moved (note.message c k b) = refl
-gone_moved (note.ping_got c b) = refl
-gone_moved (note.pong_got c b) = refl
-gone_moved (note.peer_close c k b) = refl
-gone_moved (note.failed c k) = refl
-gone_moved (note.took c o k) = refl
-gone_moved (note.dropped c i h) = refl
-gone_moved (note.unserved c o w) = refl
-gone_moved (note.pinged c) = refl
-gone_moved (note.told c k d) = refl
-gone_moved (note.closed c k b) = refl
-gone_moved (note.gone c l) = refl
 
 gone_stays : (d : ℕ) (ns : List NoteValue) → phases d ns (Some Gone) ≡ Some Gone
 gone_stays d [] = refl
@@ -118,9 +69,6 @@ says_gone d l (n ∷ ns) e =
     (λ here. let found = gone_note d l n here in record { before = []; rest = ns; left = found.0; split = ap (λ m. m ∷ ns) found.1 })
     (λ elsewhere. let more = says_gone d l ns (sym (ap (λ z. z || is_gone_by_in d l ns) elsewhere) ∙ e) in
     record { before = n ∷ more.before; rest = more.rest; left = more.left; split = ap (λ zs. n ∷ zs) more.split })
-
-same_number : (d : ℕ) → nat_eq d d ≡ true
-same_number d = grind (arith, nat_tests)
 
 -- ---- how a link finishes
 
@@ -185,13 +133,6 @@ first_fault finish.Later b A e here there = there e
 first_fault finish.Failed b A e here there = here refl
 first_fault finish.End b A e here there = absurd (let z : finish.End ≡ finish.Failed = e in cc)
 
-or_first : (a b : Bool) → a ≡ true → (a || b) ≡ true
-or_first a b e = ap (λ z. z || b) e
-
-or_second : (a b : Bool) → b ≡ true → (a || b) ≡ true
-or_second true b e = refl
-or_second false b e = e
-
 some_end : (d : ℕ) (acts : List Act) → finish_of d acts ≡ finish.End → list_any (is_end_of d) acts ≡ true
 some_end d [] e = absurd (let z : finish.Later ≡ finish.End = e in cc)
 some_end d (a ∷ acts) e =
@@ -215,14 +156,6 @@ is_fault_is : (e : Finish) → is_fault e ≡ true → e ≡ finish.Failed
 is_fault_is finish.Later e = clash false refl e
 is_fault_is finish.End e = clash false refl e
 is_fault_is finish.Failed e = refl
-
-both_left : (a b : Bool) → (a && b) ≡ true → a ≡ true
-both_left true b e = refl
-both_left false b e = clash false refl e
-
-both_right : (a b : Bool) → (a && b) ≡ true → b ≡ true
-both_right true b e = e
-both_right false b e = clash false refl e
 
 -- ---- what is ready
 
@@ -349,5 +282,5 @@ module _ (f : ConfigValue) (t : RouteTable) (ns : List NoteValue) (net : MemNetS
         let finished = is_fault_is (link_at net d).finish (both_right (link_at net d).answered (is_fault (link_at net d).finish) both) in
         some_fault d net.acts (sym (finish_all d there) ∙ finished)
 
-    pub replay_all : IsReplayed f t net.acts ns (net_state net) held replies
-    replay_all = record { right = right; settled = settled; given = replay_given; unended = replay_unended; ended = replay_ended; failed = replay_failed }
+    pub replay_all : LivedThroughout (echo_server replies) t f.max_message ns (net_state net).given → IsReplayed f t net.acts ns (net_state net) held replies
+    replay_all throughout = record { right = right; settled = settled; throughout = throughout; given = replay_given; unended = replay_unended; ended = replay_ended; failed = replay_failed }

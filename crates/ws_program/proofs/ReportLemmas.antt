@@ -1,33 +1,6 @@
 -- Lines that are written one after the other, and what is held for a connection.
-use Rattle.std.proofs.Common.{◌≡◌, ◌≤◌, ℕ, suc, List, [], ◌∷◌, ◌++◌, Option, Some, None, Bool, true, false, cond, not, ◌+◌, take, drop, take-append-drop, arith, map, slice_get, length, refl, sym, ap, ◌∙◌, subst, append_assoc, append-nil}
-use Rattle.std.specs.List.{flat_map}
-use Rattle.std.proofs.KnownBytes.{Appends-nil, Appends-trans}
-use Rattle.ws_kinds.specs.declared.note.Phase.{Phase}
-use Rattle.ws_kinds.specs.declared.note.Phase.TheVariants.{Gone}
-use Rattle.ws_kinds.specs.NoteValue.{NoteValue}
-use Rattle.link_trait.specs.Link.{TellsAlike, Rose}
-use Rattle.link_trait.proofs.Pieces.{TellsAlike-trans}
-use Rattle.schedule_text.specs.Output.{WritesText}
-use Rattle.schedule_text.specs.Report.{Link, link_line}
-use Rattle.hub_lines.specs.State.{HubState, Entry, is_gone, has_entry, entry_at, phase_at, ring_at}
-use Rattle.hub_lines.specs.Lines.{held_at, held_octets}
-use Rattle.hub_lines.specs.Calls.{Settled}
-use Rattle.hub_lines.proofs.CallLemmas.{settled_held}
-use Rattle.hub_lines.proofs.EntryLemmas.{none_of}
-use Rattle.run_kept.specs.Ends.{backlog_at}
-use Rattle.run_meaning.specs.Counts.{gather, accepted_by}
-use Rattle.run_meaning.proofs.Parts.{gather-append}
-use Rattle.run_meaning.proofs.Underway.{take_one}
-use Rattle.ws_program.specs.Replayed.{links_of, all_link_lines}
+use Rattle.ws_program.proofs.Below.{◌≡◌, ◌≤◌, ℕ, suc, List, [], ◌∷◌, ◌++◌, Option, Some, None, Bool, true, false, cond, not, ◌+◌, take, drop, take-append-drop, arith, map, slice_get, length, refl, sym, ap, ◌∙◌, subst, append_assoc, append-nil, flat_map, Appends-nil, Appends-trans, Phase, Gone, NoteValue, Rose, TellsAlike-trans, WritesText, Link, link_line, HubState, Entry, is_gone, has_entry, entry_at, phase_at, ring_at, held_at, held_octets, Settled, settled_held, none_of, next, backlog_at, gather, accepted_by, gather-append, take_one, links_of, all_link_lines, AreLinks, phase_there}
 use Rattle.ws_program.proofs.PassLemmas.{front_of_more}
-
-same_telling : (w : Option (List ℕ)) → TellsAlike w w
-same_telling None = tt
-same_telling (Some xs) = tt
-
--- nothing is written
-pub writes_none : (w : Option (List ℕ)) (f : ℕ) → WritesText [] w w f f true
-writes_none w f = (Appends-nil w, same_telling w, refl)
 
 -- text behind text
 pub writes_then : (s t : List ℕ) (w0 w1 w2 : Option (List ℕ)) (f0 f1 f2 : ℕ) (r : Bool) → WritesText s w0 w1 f0 f1 true → WritesText t w1 w2 f1 f2 r → WritesText (s ++ t) w0 w2 f0 f2 r
@@ -45,9 +18,6 @@ writes_then s t w0 w1 w2 f0 f1 f2 false (wrote, alike, same) fails =
 -- a fault within the first text
 pub writes_less : (s t : List ℕ) (w0 w1 : Option (List ℕ)) (f0 f1 : ℕ) → WritesText s w0 w1 f0 f1 false → WritesText (s ++ t) w0 w1 f0 f1 false
 writes_less s t w0 w1 f0 f1 fails = record { written = front_of_more w0 w1 s t fails.written; tells = fails.tells; later = fails.later; cause = fails.cause }
-
-next : (i : ℕ) → i + 1 ≡ suc i
-next i = omega arith
 
 flat-append : (f : NoteValue → List ℕ) (xs ys : List NoteValue) → flat_map f (xs ++ ys) ≡ flat_map f xs ++ flat_map f ys
 flat-append f [] ys = refl
@@ -68,16 +38,30 @@ map-append : (g : ℕ → Link) (xs ys : List ℕ) → map g (xs ++ ys) ≡ map 
 map-append g [] ys = refl
 map-append g (x ∷ xs) ys = ap (λ l. g x ∷ l) (map-append g xs ys)
 
+both_links : (xs ys : List Link) → AreLinks xs → AreLinks ys → AreLinks (xs ++ ys)
+both_links [] ys a b = b
+both_links (x ∷ xs) ys a b = (a.0, both_links xs ys a.1 b)
+
+links_of_more : (held taken : ℕ → List ℕ) (ns : List NoteValue) (i : ℕ) (n : NoteValue) → slice_get ns i ≡ Some n
+    → links_of held taken (take (i + 1) ns) ≡ links_of held taken (take i ns) ++ links_of held taken (n ∷ [])
+links_of_more held taken ns i n at =
+    let g : ℕ → Link = λ conn. record { conn = conn; held = length (held conn); octets = taken conn } in
+    ap (λ k. map g (gather accepted_by (take k ns))) (next i)
+    ∙ ap (λ zs. map g (gather accepted_by zs)) (take_one i ns n at)
+    ∙ ap (map g) (gather-append accepted_by (take i ns) (n ∷ []))
+    ∙ map-append g (gather accepted_by (take i ns)) (gather accepted_by (n ∷ []))
+
+-- the links so far, and one more
+pub links_more : (held taken : ℕ → List ℕ) (ns : List NoteValue) (i : ℕ) (n : NoteValue) → slice_get ns i ≡ Some n
+    → AreLinks (links_of held taken (take i ns)) → AreLinks (links_of held taken (n ∷ [])) → AreLinks (links_of held taken (take (i + 1) ns))
+links_more held taken ns i n at before one =
+    subst (λ (links : List Link). AreLinks links) (sym (links_of_more held taken ns i n at)) (both_links (links_of held taken (take i ns)) (links_of held taken (n ∷ [])) before one)
+
 -- the lines of the links of notes, one note at a time
 pub links_next : (held taken : ℕ → List ℕ) (ns : List NoteValue) (i : ℕ) (n : NoteValue) → slice_get ns i ≡ Some n
     → all_link_lines (links_of held taken (take (i + 1) ns)) ≡ all_link_lines (links_of held taken (take i ns)) ++ all_link_lines (links_of held taken (n ∷ []))
 links_next held taken ns i n at =
-    let g : ℕ → Link = λ conn. record { conn = conn; held = length (held conn); octets = taken conn } in
-    ap (λ k. all_link_lines (map g (gather accepted_by (take k ns)))) (next i)
-    ∙ ap (λ zs. all_link_lines (map g (gather accepted_by zs))) (take_one i ns n at)
-    ∙ ap (λ zs. all_link_lines (map g zs)) (gather-append accepted_by (take i ns) (n ∷ []))
-    ∙ ap all_link_lines (map-append g (gather accepted_by (take i ns)) (gather accepted_by (n ∷ [])))
-    ∙ links-append (map g (gather accepted_by (take i ns))) (map g (gather accepted_by (n ∷ [])))
+    ap all_link_lines (links_of_more held taken ns i n at) ∙ links-append (links_of held taken (take i ns)) (links_of held taken (n ∷ []))
 
 -- the lines so far, and one more
 pub text_grows : (f : NoteValue → List ℕ) (ns : List NoteValue) (i : ℕ) (n : NoteValue) (w0 w1 w2 : Option (List ℕ)) (f0 f1 f2 : ℕ) → slice_get ns i ≡ Some n
@@ -119,14 +103,6 @@ held_none h c away = by_entry (has_entry h.entries c) refl
     by_entry : (b : Bool) → has_entry h.entries c ≡ b → backlog_at h c ≡ []
     by_entry true there = absurd (let z : Some (entry_at h c).phase ≡ None = sym (ap (λ b. cond b (Some (entry_at h c).phase) None) there) ∙ away in cc)
     by_entry false none = ap (λ (e : Entry). cond (not (is_gone e.phase)) e.ring []) (none_of h.entries c none)
-
--- an entry's phase
-phase_there : (h : HubState) (c : ℕ) (p : Phase) → phase_at h c ≡ Some p → (entry_at h c).phase ≡ p
-phase_there h c p is = by_entry (has_entry h.entries c) refl
-  where
-    by_entry : (b : Bool) → has_entry h.entries c ≡ b → (entry_at h c).phase ≡ p
-    by_entry true there = let z : Some (entry_at h c).phase ≡ Some p = sym (ap (λ b. cond b (Some (entry_at h c).phase) None) there) ∙ is in cc
-    by_entry false none = absurd (let z : None ≡ Some p = sym (ap (λ b. cond b (Some (entry_at h c).phase) None) none) ∙ is in cc)
 
 pub held_gone : (h : HubState) (c : ℕ) → phase_at h c ≡ Some Gone → backlog_at h c ≡ []
 held_gone h c gone = ap (λ (q : Phase). cond (not (is_gone q)) (ring_at h c) []) (phase_there h c Gone gone)

@@ -1,40 +1,11 @@
 -- What a run over a net in memory comes to, by what the loop says of it.
-use Rattle.std.proofs.Common.{◌≡◌, ◌<◌, ◌≤◌, ◌+◌, ◌-◌, ◌^◌, ℕ, List, [], ◌∷◌, ◌++◌, Option, Some, None, Bool, true, false, cond, nat_eq, map, length, refl, sym, ap, ◌∙◌, subst, arith}
-use Rattle.std.specs.List.{count_by}
-use Rattle.std.proofs.lemmas.List.{length-append}
-use Rattle.ws_kinds.specs.ConfigValue.{ConfigValue}
-use Rattle.ws_kinds.specs.NoteValue.{NoteValue}
-use Rattle.ws_kinds.specs.Recorder.{RecorderState, told_by}
-use Rattle.link_trait.specs.declared.net.NetEvent.{NetEvent}
+use Rattle.ws_program.proofs.Below.{◌≡◌, ◌<◌, ◌≤◌, ◌+◌, ◌-◌, ◌^◌, ℕ, List, [], ◌∷◌, ◌++◌, Option, Some, None, Bool, true, false, cond, nat_eq, map, length, refl, sym, ap, ◌∙◌, subst, arith, count_by, length-append, ConfigValue, NoteValue, RecorderState, told_by, NetEvent, Act, passes, arrivals, sent, new_link, MemNetState, FollowsSchedule, net_state, start_net, link_of, RouteTable, Head, Gone, echo_server, echo_said, AreReplies, HubState, server, clash, IsTable, table_of, Settled, report, AreThere, backlog_at, there_first, intake_at, Intakes, kept_at_first, Runs, Beginning, IsRight, IsSettled, IsLivedThroughout, EndsWithTurn, AreFew, KeptAll, AreViews, no_view, IntakeView, AreNotes, IsReplayed, IsReport, AreLinks, links_of, is_turn_act, CanRun, HasRun, echo_routes}
 use Rattle.link_trait.specs.declared.net.NetEvent.TheVariants as event
-use Rattle.link_trait.specs.declared.act.Act.{Act}
-use Rattle.mem_net.specs.Acts.{passes, arrivals, sent}
-use Rattle.mem_net.specs.LinkState.{new_link}
-use Rattle.mem_net.specs.MemNet.{MemNetState, FollowsSchedule, net_state, start_net, link_of}
-use Rattle.route_table.specs.Table.{RouteTable}
-use Rattle.ws_kinds.specs.declared.note.Phase.TheVariants.{Head, Gone}
-use Rattle.run_meaning.specs.Echo.{echo_server, echo_said}
-use Rattle.run_meaning.specs.Replies.{AreReplies}
-use Rattle.hub_lines.specs.State.{HubState, server}
-use Rattle.hub_notes.proofs.BoolLemmas.{clash}
-use Rattle.hub_notes.specs.Table.{IsTable, table_of}
-use Rattle.hub_lines.specs.Calls.{Settled}
-use Rattle.schedule_text.specs.Report.{report}
-use Rattle.run_kept.specs.Ends.{AreThere, backlog_at}
-use Rattle.run_kept.proofs.EndLemmas.{there_first}
-use Rattle.loop_runner.specs.Intakes.{intake_at}
-use Rattle.loop_runner.specs.declared.intakes.Intakes.{Intakes}
-use Rattle.loop_runner.proofs.RightLemmas.{kept_at_first}
 use Rattle.loop_runner.specs.declared.turns.Ran.TheVariants as ran
-use Rattle.loop_runner.specs.Turns.{Runs}
-use Rattle.loop_runner.specs.Keeps.{Beginning, IsRight, IsSettled, EndsWithTurn, AreFew, KeptAll, AreViews, no_view}
-use Rattle.run_kept.specs.Kept.{IntakeView}
-use Rattle.ws_program.specs.Replayed.{IsReplayed, IsReport, links_of, is_turn_act}
 use Rattle.ws_program.proofs.FewLemmas.{few_items}
 use Rattle.ws_program.proofs.StopLemmas.{passes_few}
 use Rattle.ws_program.proofs.EndLemmas.{ran_stopped, ran_never_spent, ran_never_failed}
 use Rattle.ws_program.proofs.ReplayedLemmas.{replay_all}
-use Rattle.ws_program.specs.Replay.{CanRun, HasRun, echo_routes}
 
 -- what the command begins with
 abbrev pub echo_beginning : ConfigValue → RouteTable → Beginning (Unit {0})
@@ -122,18 +93,20 @@ module _ (f : ConfigValue) (acts : List Act) (hub : HubState) (net : MemNetState
 
     pub has_run : Settled hub → r.whole ≡ true → net.whole ≡ true → length r.notes < 2 ^ 64 → EndsWithTurn (told_by r)
         → IsRight (echo_beginning f echo_routes) (server hub (net_state net) (told_by r)) tt
-        → IsSettled (echo_beginning f echo_routes) (server hub (net_state net) (told_by r)) → HasRun f acts hub net r
-    has_run settled kept whole short last right rests = record { settled = settled; reports = all }
+        → IsSettled (echo_beginning f echo_routes) (server hub (net_state net) (told_by r)) → IsLivedThroughout (echo_beginning f echo_routes) (server hub (net_state net) (told_by r))
+        → AreNotes r.notes → AreLinks (links_of (backlog_at hub) (net_state net).taken r.notes) → HasRun f acts hub net r
+    has_run settled kept whole short last right rests lived notes links = record { settled = settled; reports = all }
       where
         told : told_by r ≡ Some r.notes
         told = ap (λ b. cond b (Some r.notes) None) kept
 
+        few : (replies : ℕ → List ℕ) → AreFew (echo_server replies) r.notes
+        few replies front behind split d = let ends = last r.notes told in few_items replies r.notes front behind ends.0 ends.1 short split d
+
         replayed : (replies : ℕ → List ℕ) → AreReplies echo_routes r.notes (net_state net).given replies → IsReplayed f echo_routes acts r.notes (net_state net) (backlog_at hub) replies
         replayed replies agree =
-            let ends = last r.notes told in
-            let few : AreFew (echo_server replies) r.notes = λ front behind split d. few_items replies r.notes front behind ends.0 ends.1 short split d in
             subst (λ (xs : List Act). IsReplayed f echo_routes xs r.notes (net_state net) (backlog_at hub) replies) acts_are
-            (replay_all f echo_routes r.notes net (backlog_at hub) replies (right r.notes told refl replies agree few) follows whole ended.0 (rests r.notes told refl replies agree few))
+            (replay_all f echo_routes r.notes net (backlog_at hub) replies (right.right r.notes told refl replies agree (few replies)) follows whole ended.0 (rests r.notes told refl replies agree (few replies)) (lived r.notes told refl replies agree (few replies)))
 
         all : IsReport f echo_routes acts (report r.notes (links_of (backlog_at hub) (net_state net).taken r.notes))
         all = record {
@@ -141,9 +114,13 @@ module _ (f : ConfigValue) (acts : List Act) (hub : HubState) (net : MemNetState
           net = net;
           held = backlog_at hub;
           text = refl;
+          notes_in_range = notes;
+          links_in_range = links;
+          whole = whole;
           acts_are = acts_are;
           follows = follows;
           used = ended.0 ∙ ap (λ (xs : List Act). length xs) acts_are;
           passed = ended.1 ∙ ap (λ (xs : List Act). passes xs ++ event.Stop ∷ []) acts_are;
+          texts = right.texts r.notes told refl few;
           run = replayed;
         }

@@ -1,20 +1,8 @@
 -- The answers of a net in memory that follows its schedule: those that the acts done pass, and then Stop.
-use Rattle.std.proofs.Common.{◌≡◌, ◌<◌, ◌≤◌, ◌+◌, ◌-◌, ◌^◌, ℕ, zero, suc, List, [], ◌∷◌, ◌++◌, Bool, true, false, not, ◌&&◌, length, take, replicate, ◌⊎◌, inl, inr, refl, sym, ap, ◌∙◌, append-nil, min, arith, rules}
-use Rattle.std.proofs.Math.Nat.{eq-or-lt_of_le}
-use Rattle.std.proofs.Math.Seq.{take-length}
-use Rattle.std.proofs.lemmas.Bool.{cases_lt}
-use Rattle.std.proofs.lemmas.List.{length-append, length-take, length-take-le, take-append-le, take_all}
-use Rattle.std.specs.List.{list_all}
-use Rattle.link_trait.specs.declared.net.NetEvent.{NetEvent}
+use Rattle.ws_program.proofs.Below.{◌≡◌, ◌<◌, ◌≤◌, ◌+◌, ◌-◌, ◌^◌, ℕ, zero, suc, List, [], ◌∷◌, ◌++◌, Bool, true, false, not, ◌&&◌, length, take, replicate, ◌⊎◌, inl, inr, refl, sym, ap, ◌∙◌, append-nil, min, arith, rules, eq-or-lt_of_le, take-length, cases_lt, length-append, length-take-le, take-append-le, take_all, list_all, NetEvent, Act, passes, passes_by, MemNetState, FollowsSchedule, net_state, is_stop, and_left, and_right}
+use Rattle.std.proofs.lemmas.List.{length-take}
 use Rattle.link_trait.specs.declared.net.NetEvent.TheVariants as event
-use Rattle.link_trait.specs.declared.act.Act.{Act}
 use Rattle.link_trait.specs.declared.act.Act.TheVariants as act
-use Rattle.mem_net.specs.Acts.{passes, passes_by}
-use Rattle.mem_net.specs.MemNet.{MemNetState, FollowsSchedule, net_state}
-use Rattle.ws_program.specs.Replayed.{is_stop}
-
-clash_of : (b : Bool) → b ≡ true → b ≡ false → ⊥
-clash_of b shown hidden = let z : true ≡ false = sym shown ∙ hidden in cc
 
 -- acts pass no Stop
 pub no_stop : (acts : List Act) → list_all (λ answer. not (is_stop answer)) (passes acts) ≡ true
@@ -27,10 +15,6 @@ no_stop (act.Room c more ∷ acts) = no_stop acts
 no_stop (act.WriteFails c ∷ acts) = no_stop acts
 no_stop (act.Tick ∷ acts) = no_stop acts
 no_stop (act.Turn ∷ acts) = no_stop acts
-
-pub and_right : (a b : Bool) → (a && b) ≡ true → b ≡ true
-and_right true b e = e
-and_right false b e = absurd (clash_of false e refl)
 
 -- a list without Stop does not end with it
 ends_without : (before : List NetEvent) → list_all (λ answer. not (is_stop answer)) (before ++ event.Stop ∷ []) ≡ true → ⊥
@@ -51,10 +35,6 @@ stops_one event.Tick rest e = refl
 stops_one event.Turn rest e = refl
 stops_one event.Stop rest e = let z : false ≡ true = e in cc
 stops_one event.Failed rest e = refl
-
-pub and_left : (a b : Bool) → (a && b) ≡ true → a ≡ true
-and_left true b e = refl
-and_left false b e = absurd (clash_of false e refl)
 
 stops_none : (es rest : List NetEvent) → list_all (λ answer. not (is_stop answer)) es ≡ true → stops_in (es ++ rest) ≡ stops_in rest
 stops_none [] rest none = refl

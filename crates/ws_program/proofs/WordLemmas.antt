@@ -1,6 +1,5 @@
 -- The words of the command line.
-use Rattle.std.proofs.Common.{List, String, sym, ◌∙◌}
-use Rattle.ws_program.specs.Words.{IsEcho, IsReplay}
+use Rattle.ws_program.proofs.Below.{List, String, sym, ◌∙◌, IsEcho, IsReplay}
 
 -- no words name both commands
 pub not_both : {A : Type 0} (words : List (String A)) → IsEcho words → IsReplay words → ⊥

@@ -22,23 +22,23 @@ abbrev pub Passes : (written written' : Option (List ℕ)) → (held held' more 
 Passes written written' held held' more = (sent : List ℕ) × Appends written written' sent × (held ++ more ≡ sent ++ held')
 
 -- a fault is counted exactly where it is told
-abbrev pub CountsFaults : Option Answered → ℕ → ℕ → Type 0
-CountsFaults (Some answered.Failed) old new = Rose old new
+abbrev pub CountsFaults : Answered → ℕ → ℕ → Type 0
+CountsFaults answered.Failed old new = Rose old new
 CountsFaults other old new = new ≡ old
 
 -- More octets were put behind those held, and the answer is `good`; or the sink had a fault.
-abbrev pub Puts : Option Answered → (good : Option Answered) → (written written' : Option (List ℕ)) → (held held' more : List ℕ) → Type 0
-Puts (Some answered.Failed) good written written' held held' more = AppendsFront written written' (held ++ more)
+abbrev pub Puts : Answered → (good : Answered) → (written written' : Option (List ℕ)) → (held held' more : List ℕ) → Type 0
+Puts answered.Failed good written written' held held' more = AppendsFront written written' (held ++ more)
 Puts result good written written' held held' more = (result ≡ good) × Passes written written' held held' more
 
 -- what becomes of one step
-abbrev pub AnswersStep : Option Answered → Step → (written written' : Option (List ℕ)) → (held held' : List ℕ) → Type 0
-AnswersStep None step written written' held held' =
+abbrev pub AnswersStep : Answered → Step → (written written' : Option (List ℕ)) → (held held' : List ℕ) → Type 0
+AnswersStep answered.One step written written' held held' =
     (steps.is_last step ≡ false) × (steps.IsMore step → ⊥) × Passes written written' held held' (answers_to (steps.events_of step))
-AnswersStep (Some answered.All) step written written' held held' = steps.IsMore step × (written' ≡ written) × (held' ≡ held)
-AnswersStep (Some answered.Closed) step written written' held held' =
+AnswersStep answered.All step written written' held held' = steps.IsMore step × (written' ≡ written) × (held' ≡ held)
+AnswersStep answered.Closed step written written' held held' =
     (steps.is_last step ≡ true) × Passes written written' held held' (answers_to (steps.events_of step))
-AnswersStep (Some answered.Failed) step written written' held held' = AppendsFront written written' (held ++ answers_to (steps.events_of step))
+AnswersStep answered.Failed step written written' held held' = AppendsFront written written' (held ++ answers_to (steps.events_of step))
 
 -- these events were told of the reader, whatever comes, and answered
 pub record Answers (old new : Reader) (events : List Event) (written written' : Option (List ℕ)) (held held' : List ℕ) : Type 0 where
@@ -52,6 +52,7 @@ pub record GoesOn (old new : Reader) (events : List Event) : Type 0 where
 
 -- what becomes of all events that are ahead of a reader, up to a close or a failure
 abbrev pub AnswersAll : Answered → (old new : Reader) → (written written' : Option (List ℕ)) → (held held' : List ℕ) → Type 0
+AnswersAll answered.One old new written written' held held' = ⊥
 AnswersAll answered.All old new written written' held held' =
     (events : List Event) × Answers old new events written written' held held' × GoesOn old new events
     × (ahead new [] ≡ []) × (has_ended old ≡ false → length (raw_of new) ≤ 130)
@@ -60,15 +61,16 @@ AnswersAll answered.Closed old new written written' held held' =
 AnswersAll answered.Failed old new written written' held held' = AppendsFront written written' (held ++ answers_to (ahead old []))
 
 -- what becomes of the next event: it is not the last one, and fewer are ahead then; or there was none, or it is the last
-abbrev pub AnswersNext : Option Answered → (old new : Reader) → (written written' : Option (List ℕ)) → (held held' : List ℕ) → Type 0
-AnswersNext None old new written written' held held' =
+abbrev pub AnswersNext : Answered → (old new : Reader) → (written written' : Option (List ℕ)) → (held held' : List ℕ) → Type 0
+AnswersNext answered.One old new written written' held held' =
     (event : Event) × Answers old new (event ∷ []) written written' held held' × GoesOn old new (event ∷ [])
     × (length (ahead new []) < length (ahead old []))
-AnswersNext (Some result) old new written written' held held' = AnswersAll result old new written written' held held'
+AnswersNext result old new written written' held held' = AnswersAll result old new written written' held held'
 
 -- what becomes of octets that came: all that they tell was answered and written, up to a close or a failure, or a front of
 -- the answers was written
 abbrev pub AnswersOctets : Answered → (old : Reader) → (octets : List ℕ) → (new : Reader) → (written written' : Option (List ℕ)) → Type 0
+AnswersOctets answered.One old octets new written written' = ⊥
 AnswersOctets answered.All old octets new written written' =
     (events : List Event) × ((more : List ℕ) → ahead old (octets ++ more) ≡ events ++ ahead new more)
     × Appends written written' (answers_to events) × (list_any is_last events ≡ false)

@@ -5,3 +5,4 @@ pub mod Echo
 pub mod Answers
 pub mod Replayed
 pub mod Replay
+pub mod All

@@ -1,8 +1,9 @@
 -- What comes of a schedule that was run over a net in memory, with a handler that sends each message of the first route back.
-use Rattle.std.specs.Prelude.{◌≡◌, ℕ, List, [], ◌∷◌, ◌++◌, Bool, true, false, nat_eq, length, map}
-use Rattle.std.specs.List.{list_any, flat_map}
+use Rattle.std.specs.Prelude.{◌≡◌, ◌<◌, ◌+◌, ◌-◌, ◌^◌, ℕ, List, [], ◌∷◌, ◌++◌, Bool, true, false, nat_eq, length, map}
+use Rattle.std.specs.List.{list_any, flat_map, AllByRecursion}
 use Rattle.ws_kinds.specs.ConfigValue.{ConfigValue}
 use Rattle.ws_kinds.specs.NoteValue.{NoteValue}
+use Rattle.ws_kinds.specs.Ranges.{AreNotes}
 use Rattle.ws_kinds.specs.declared.note.Left.TheVariants.{PeerEnd, LinkFailed}
 use Rattle.link_trait.specs.declared.act.Act.{Act}
 use Rattle.link_trait.specs.declared.act.Act.TheVariants as act
@@ -18,8 +19,9 @@ use Rattle.run_meaning.specs.Echo.{echo_server}
 use Rattle.run_meaning.specs.Lines.{phase}
 use Rattle.run_meaning.specs.Settled.{Settled, is_reading}
 use Rattle.run_meaning.specs.Right.{Right}
-use Rattle.run_meaning.specs.Replies.{AreReplies}
-use Rattle.schedule_text.specs.Report.{Link, link_line, report}
+use Rattle.run_meaning.specs.Replies.{AreReplies, HasReplies}
+use Rattle.run_meaning.specs.Life.{LivedThroughout}
+use Rattle.schedule_text.specs.Report.{Link, link_line, report, IsLink}
 
 -- the peer of the connection ends its stream by this act
 abbrev pub is_end_of : ℕ → Act → Bool
@@ -41,11 +43,20 @@ abbrev pub is_turn_act : Act → Bool
 is_turn_act act.Turn = true
 is_turn_act _ = false
 
+-- A net follows its schedule, whose acts can be counted; at an earlier moment, when it was in the other state, it had told nothing.
+pub record IsNew (net : MemNetState) (old : NetState) : Type 0 where
+  pub follows : FollowsSchedule net
+  pub few : length net.acts + 1 < 2 ^ 64 - 1
+  pub tells : old.tells ≡ true
+  pub none : old.passed ≡ []
+
 -- The notes, the net and what is held for each connection, with these texts of replies: all acts were done, the run is right, and
 -- all is settled.
 pub record IsReplayed (config : ConfigValue) (table : RouteTable) (acts : List Act) (notes : List NoteValue) (net : NetState) (held : ℕ → List ℕ) (replies : ℕ → List ℕ) : Type 0 where
   pub right : Right (echo_server replies) config table notes net tt held
   pub settled : Settled (echo_server replies) notes net (record { pending = 0; gathered = []; backlog = held })
+  -- at the end of each turn, what was heard of each connection is what the octets say that were given until then
+  pub throughout : LivedThroughout (echo_server replies) table config.max_message notes net.given
   -- a connection that is still read was given all of its octets, and no act ends them
   pub given : (conn : ℕ) → is_reading (phase (echo_server replies) notes conn) ≡ true → net.given conn ≡ sent conn acts
   pub unended : (conn : ℕ) → is_reading (phase (echo_server replies) notes conn) ≡ true → list_any (is_ending conn) acts ≡ false
@@ -58,6 +69,10 @@ pub record IsReplayed (config : ConfigValue) (table : RouteTable) (acts : List A
 abbrev pub links_of : (ℕ → List ℕ) → (ℕ → List ℕ) → List NoteValue → List Link
 links_of held taken notes = map (λ conn. record { conn = conn; held = length (held conn); octets = taken conn }) (gather accepted_by notes)
 
+-- the links of a report are in the ranges of their lines
+abbrev pub AreLinks : List Link → Type 0
+AreLinks links = AllByRecursion IsLink links
+
 -- the lines of links
 abbrev pub all_link_lines : List Link → List ℕ
 all_link_lines links = flat_map (λ link. link_line link.conn link.held link.octets) links
@@ -68,8 +83,15 @@ pub record IsReport (config : ConfigValue) (table : RouteTable) (acts : List Act
   pub net : MemNetState
   pub held : ℕ → List ℕ
   pub text : octets ≡ report notes (links_of held (net_state net).taken notes)
+  -- its numbers are in the ranges of their lines, so that the text tells the notes and the links
+  pub notes_in_range : AreNotes notes
+  pub links_in_range : AreLinks (links_of held (net_state net).taken notes)
   pub acts_are : net.acts ≡ acts
+  -- no write failed, so a link is called failed only where a read of it failed
+  pub whole : net.whole ≡ true
   pub follows : FollowsSchedule net
   pub used : net.done ≡ length acts
   pub passed : (net_state net).passed ≡ passes acts ++ event.Stop ∷ []
+  -- there are texts of replies that agree with the judging, and for all of them the run is as it should be
+  pub texts : HasReplies table notes (net_state net).given
   pub run : (replies : ℕ → List ℕ) → AreReplies table notes (net_state net).given replies → IsReplayed config table acts notes (net_state net) held replies

@@ -4,7 +4,7 @@ ghost use Rattle.std.specs.Prelude.{◌≡◌, ◌≤◌, ◌+◌, ◌++◌, tru
 ghost use Rattle.std.specs.Io.KnownBytes.{Appends};
 ghost use Rattle.link_trait.specs.Link.{TellsAlike, Rose};
 ghost use Rattle.link_trait.specs.Sink.{AppendsFront};
-ghost use Rattle.wire_meaning.specs.Frame.{header, opcode_number};
+ghost use Rattle.wire_meaning.specs.Frame.{frame, opcode_number};
 ghost use Rattle.wire_meaning.specs.declared.frame.Opcode.{Opcode};
 ghost use Rattle.wire_meaning.specs.Answer.{spelled, close_item};
 ghost use Rattle.frame_writer.specs.Header.{is_sent_opcode};
@@ -17,20 +17,17 @@ use frame_writer::head_of;
 use link_trait::{Sink, write_all};
 use std::alloc::{AllocError, Global};
 use std::marker::Model;
-use ws_kinds::Kind;
+use wire_meaning::{Opcode, close_body, opcode_number};
 
 /// The most octets that are held. It is more than the longest frame has: 10 of the header and 65,536 of the payload.
 const CAPACITY: usize = 131_072;
 
-/// The numbers of opcodes (RFC 6455, section 11.8).
-const CLOSE: u8 = 8;
-
-const PONG: u8 = 10;
-
 /// What became of the events that were to be answered.
 #[derive(Clone, Copy, Debug, PartialEq, Eq)]
 pub(crate) enum Answered {
-    /// All were answered, and the reading goes on.
+    /// An event that is not the last one was answered, and more may be ahead.
+    One,
+    /// None is ahead, and the reading goes on.
     All,
     /// A close or a failure was answered, after which nothing is read.
     Closed,
@@ -54,16 +51,6 @@ impl Model for Answers {
     ghost invariant = { λ answers. (vec_len answers.octets ≤ 131072) × (131072 ≤ vec_capacity answers.octets) };
 }
 
-/// The number of the opcode of a whole message of this kind.
-fn opcode_of(kind: Kind) -> u8
-    ensures { result ≡ opcode_number (Opcode.Begins kind) }
-{
-    match kind {
-        Kind::Text => 1,
-        Kind::Binary => 2,
-    }
-}
-
 impl Answers {
     /// No octets. The memory is taken here, and no later call takes any.
     pub(crate) fn new(alloc: Global) -> Result<Answers, AllocError>
@@ -74,8 +61,8 @@ impl Answers {
         })
     }
 
-    /// Answers a step, unless it is `More`. Without an answer of its own more events may be ahead.
-    pub(crate) fn answer<K: Sink>(&mut self, step: Step<'_>, sink: &mut K) -> Option<Answered>
+    /// Answers the event of a step; `All` is for `More`, which has none.
+    pub(crate) fn answer<K: Sink>(&mut self, step: Step<'_>, sink: &mut K) -> Answered
         requires { AreShort 65536 (events_of step) }
         ensures step { AnswersStep result step.entry (K.written sink.old) (K.written sink.new) self.old self.new }
         ensures tells { TellsAlike (K.written sink.old) (K.written sink.new) }
@@ -83,72 +70,57 @@ impl Answers {
         ensures cause { CountsFaults result (K.faults sink.old) (K.faults sink.new) }
     {
         match step {
-            Step::More => Some(Answered::All),
-            Step::Message(kind, octets) => self.put_event(opcode_of(kind), octets, sink),
-            Step::Ping(payload) => self.put_event(PONG, payload, sink),
-            Step::Pong(_) => None,
+            Step::More => Answered::All,
+            Step::Message(kind, octets) => self.put_event(Opcode::Begins(kind), octets, sink),
+            Step::Ping(payload) => self.put_event(Opcode::Pong, payload, sink),
+            Step::Pong(_) => Answered::One,
             Step::Close(code, _) => self.put_close(code, sink),
             Step::Failed(code) => self.put_close(code, sink),
         }
     }
 
     /// Puts the frame that answers an event that is not the last one.
-    fn put_event<K: Sink>(&mut self, op: u8, payload: &[u8], sink: &mut K) -> Option<Answered>
-        requires opcode { IsTrue (is_sent_opcode op) }
+    fn put_event<K: Sink>(&mut self, opcode: Opcode, payload: &[u8], sink: &mut K) -> Answered
+        requires opcode { IsTrue (is_sent_opcode (opcode_number opcode)) }
         requires short { length payload.now ≤ 65536 }
-        ensures puts { Puts result None (K.written sink.old) (K.written sink.new) self.old self.new (header op (length payload.now) ++ payload.now) }
+        ensures puts { Puts result Answered.One (K.written sink.old) (K.written sink.new) self.old self.new (frame true opcode payload.now) }
         ensures tells { TellsAlike (K.written sink.old) (K.written sink.new) }
         ensures later { K.faults sink.old ≤ K.faults sink.new }
         ensures cause { CountsFaults result (K.faults sink.old) (K.faults sink.new) }
     {
-        if self.put(op, payload, sink) {
-            None
+        if self.put(opcode, payload, sink) {
+            Answered::One
         } else {
-            Some(Answered::Failed)
+            Answered::Failed
         }
     }
 
-    /// Puts the close frame with this code, an empty one for 1005.
-    fn put_close<K: Sink>(&mut self, code: u16, sink: &mut K) -> Option<Answered>
-        ensures puts { Puts result (Some Answered.Closed) (K.written sink.old) (K.written sink.new) self.old self.new (spelled (close_item code)) }
+    /// Puts the close frame with this code alone.
+    fn put_close<K: Sink>(&mut self, code: u16, sink: &mut K) -> Answered
+        ensures puts { Puts result Answered.Closed (K.written sink.old) (K.written sink.new) self.old self.new (spelled (close_item code)) }
         ensures tells { TellsAlike (K.written sink.old) (K.written sink.new) }
         ensures later { K.faults sink.old ≤ K.faults sink.new }
         ensures cause { CountsFaults result (K.faults sink.old) (K.faults sink.new) }
     {
-        if code == 1005 {
-            self.put_last(&[], sink)
+        if self.put(Opcode::Close, &close_body(code), sink) {
+            Answered::Closed
         } else {
-            self.put_last(&code.to_be_bytes(), sink)
-        }
-    }
-
-    /// Puts a close frame with this payload.
-    fn put_last<K: Sink>(&mut self, payload: &[u8], sink: &mut K) -> Option<Answered>
-        requires { length payload.now ≤ 125 }
-        ensures puts { Puts result (Some Answered.Closed) (K.written sink.old) (K.written sink.new) self.old self.new (header CLOSE (length payload.now) ++ payload.now) }
-        ensures tells { TellsAlike (K.written sink.old) (K.written sink.new) }
-        ensures later { K.faults sink.old ≤ K.faults sink.new }
-        ensures cause { CountsFaults result (K.faults sink.old) (K.faults sink.new) }
-    {
-        if self.put(CLOSE, payload, sink) {
-            Some(Answered::Closed)
-        } else {
-            Some(Answered::Failed)
+            Answered::Failed
         }
     }
 
     /// Puts a frame behind what is held. Where it does not fit there, what is held is written first.
-    fn put<K: Sink>(&mut self, op: u8, payload: &[u8], sink: &mut K) -> bool
-        requires opcode { IsTrue (is_sent_opcode op) }
+    fn put<K: Sink>(&mut self, opcode: Opcode, payload: &[u8], sink: &mut K) -> bool
+        requires opcode { IsTrue (is_sent_opcode (opcode_number opcode)) }
         requires short { length payload.now ≤ 65536 }
-        ensures taken { result ≡ true → Passes (K.written sink.old) (K.written sink.new) self.old self.new (header op (length payload.now) ++ payload.now) }
-        ensures front { result ≡ false → AppendsFront (K.written sink.old) (K.written sink.new) (self.old ++ (header op (length payload.now) ++ payload.now)) }
+        ensures taken { result ≡ true → Passes (K.written sink.old) (K.written sink.new) self.old self.new (frame true opcode payload.now) }
+        ensures front { result ≡ false → AppendsFront (K.written sink.old) (K.written sink.new) (self.old ++ frame true opcode payload.now) }
         ensures tells { TellsAlike (K.written sink.old) (K.written sink.new) }
         ensures later { K.faults sink.old ≤ K.faults sink.new }
         ensures unfailing { result ≡ true → K.faults sink.new ≡ K.faults sink.old }
         ensures cause { result ≡ false → Rose (K.faults sink.old) (K.faults sink.new) }
     {
-        let head = head_of(op, payload.len());
+        let head = head_of(opcode_number(opcode), payload.len());
         if !self.make_room(head.len() + payload.len(), sink) {
             return false;
         }
@@ -179,9 +151,7 @@ impl Answers {
         requires { length self.old + length octets.now ≤ CAPACITY }
         ensures { self.new ≡ self.old ++ octets.now }
     {
-        if self.octets.extend_from_slice(octets).is_err() {
-            unreachable!("the capacity was reserved");
-        }
+        self.octets.extend_from_slice(octets).unwrap();
     }
 
     /// Writes what is held, and answers whether the sink took it all. Then nothing is held.

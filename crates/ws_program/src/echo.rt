@@ -57,6 +57,7 @@ pub fn echo_run<S: Source, K: Sink>(
         match source.read(&mut octets[..most]) {
             Got::Octets(count) => {
                 match answer_octets(&mut reader, &mut answers, &octets[..count], sink) {
+                    Answered::One => unreachable!("all events were answered"),
                     Answered::All => left -= count,
                     Answered::Closed => return Status::Done,
                     Answered::Failed => return Status::WriteFault,
@@ -99,7 +100,7 @@ fn answer_octets<K: Sink>(
     ensures empty { result ≡ Answered.All → answers.new ≡ [] }
     ensures tells { TellsAlike (K.written sink.old) (K.written sink.new) }
     ensures later { K.faults sink.old ≤ K.faults sink.new }
-    ensures cause { CountsFaults (Some result) (K.faults sink.old) (K.faults sink.new) }
+    ensures cause { CountsFaults result (K.faults sink.old) (K.faults sink.new) }
 {
     reader.feed(octets);
     let answered = answer_events(reader, answers, sink);
@@ -118,22 +119,20 @@ fn answer_events<K: Sink>(reader: &mut Reader, answers: &mut Answers, sink: &mut
     ensures all { AnswersAll result reader.old reader.new (K.written sink.old) (K.written sink.new) answers.old answers.new }
     ensures tells { TellsAlike (K.written sink.old) (K.written sink.new) }
     ensures later { K.faults sink.old ≤ K.faults sink.new }
-    ensures cause { CountsFaults (Some result) (K.faults sink.old) (K.faults sink.new) }
+    ensures cause { CountsFaults result (K.faults sink.old) (K.faults sink.new) }
 {
     'events: loop {
         match answer_next(reader, answers, sink) {
-            Some(answered) => return answered,
-            None => {}
+            Answered::One => {}
+            Answered::All => return Answered::All,
+            Answered::Closed => return Answered::Closed,
+            Answered::Failed => return Answered::Failed,
         }
     }
 }
 
-/// Answers the next event. Without an answer of its own more events may be ahead.
-fn answer_next<K: Sink>(
-    reader: &mut Reader,
-    answers: &mut Answers,
-    sink: &mut K,
-) -> Option<Answered>
+/// Answers the next event.
+fn answer_next<K: Sink>(reader: &mut Reader, answers: &mut Answers, sink: &mut K) -> Answered
     requires { AreShort 65536 (ahead reader.old []) }
     ensures next { AnswersNext result reader.old reader.new (K.written sink.old) (K.written sink.new) answers.old answers.new }
     ensures tells { TellsAlike (K.written sink.old) (K.written sink.new) }

@@ -2,6 +2,7 @@
 
 ghost use Rattle.std.specs.Prelude.{◌≡◌, ◌≤◌, ◌<◌, ◌^◌, ℕ, List, true, length, IfOk, IfErr};
 ghost use Rattle.std.specs.List.{count_by};
+ghost use Rattle.ws_kinds.specs.Ranges.{AreNotes};
 ghost use Rattle.link_trait.specs.Link.{TellsAlike};
 ghost use Rattle.mem_net.specs.MemNet.{FollowsSchedule};
 ghost use Rattle.ws_program.specs.Replayed.{is_turn_act};
@@ -11,7 +12,7 @@ ghost use Rattle.ws_program.specs.Streams.{streams};
 
 use crate::echo_handler::Echo;
 use crate::reads::MAX_READ;
-use crate::report::report;
+use crate::report::{links_in_range, report};
 use crate::status::Status;
 use hub_core::Hub;
 use link_trait::{Act, Got, Outside, Sink, Source};
@@ -136,6 +137,7 @@ fn run_schedule(alloc: Global, config: Config, schedule: Schedule) -> Result<Rep
     match ran {
         Ran::Stopped(_) => {
             let Outside { net, watch, .. } = out;
+            links_in_range(&hub, &net, &watch);
             Ok(Replayed { hub, net, watch })
         }
         Ran::Spent => unreachable!("there is one turn more than the acts make"),
@@ -148,6 +150,7 @@ fn is_whole(net: &MemNet, watch: &Recorder) -> bool
     ensures net { result ≡ true → net.now.whole ≡ true }
     ensures watch { result ≡ true → watch.now.whole ≡ true }
     ensures few { length watch.now.notes < 2 ^ 64 }
+    ensures notes { AreNotes watch.now.notes }
     ensures follows { FollowsSchedule net.now }
 {
     let unbroken = net.whole();

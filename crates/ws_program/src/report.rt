@@ -4,12 +4,13 @@ ghost use Rattle.std.specs.Prelude.{◌≡◌, length, [], ◌∷◌, IfSome, If
 ghost use Rattle.std.specs.List.{flat_map};
 ghost use Rattle.ws_kinds.specs.NoteValue.{note_value};
 ghost use Rattle.mem_net.specs.MemNet.{net_state};
-ghost use Rattle.schedule_text.specs.Output.{WritesText};
+ghost use Rattle.schedule_text.specs.Output.{WritesTo};
 ghost use Rattle.schedule_text.specs.Report as text;
 ghost use Rattle.hub_lines.specs.Calls.{Settled};
 ghost use Rattle.run_kept.specs.Ends.{backlog_at};
 ghost use Rattle.run_meaning.specs.Counts as noted;
-ghost use Rattle.ws_program.specs.Replayed.{links_of, all_link_lines};
+ghost use Rattle.ws_program.specs.Replayed.{links_of, all_link_lines, AreLinks};
+ghost use Rattle.schedule_text.specs.Report.{IsLink};
 
 use hub_core::Hub;
 use link_trait::Sink;
@@ -21,7 +22,7 @@ use ws_kinds::{Conn, Note, Phase, Recorder};
 /// answers whether the sink took all of it; where it did not, it took a front of it. No memory is taken.
 pub(crate) fn report<K: Sink>(hub: &Hub, net: &MemNet, watch: &Recorder, sink: &mut K) -> bool
     requires settled { Settled hub.now }
-    ensures { WritesText (text.report watch.now.notes (links_of (backlog_at hub.now) (net_state net.now).taken watch.now.notes)) (K.written sink.old) (K.written sink.new) (K.faults sink.old) (K.faults sink.new) result }
+    ensures { WritesTo K.Sink (text.report watch.now.notes (links_of (backlog_at hub.now) (net_state net.now).taken watch.now.notes)) sink.old sink.new result }
 {
     if !report_notes(watch, sink) {
         return false;
@@ -31,7 +32,7 @@ pub(crate) fn report<K: Sink>(hub: &Hub, net: &MemNet, watch: &Recorder, sink: &
 
 /// Writes the line of each note, in order.
 fn report_notes<K: Sink>(watch: &Recorder, sink: &mut K) -> bool
-    ensures { WritesText (flat_map text.note_line watch.now.notes) (K.written sink.old) (K.written sink.new) (K.faults sink.old) (K.faults sink.new) result }
+    ensures { WritesTo K.Sink (flat_map text.note_line watch.now.notes) sink.old sink.new result }
 {
     'notes: for place in 0..watch.count() {
         if !report_note(&watch.at(place), sink) {
@@ -44,7 +45,7 @@ fn report_notes<K: Sink>(watch: &Recorder, sink: &mut K) -> bool
 /// Writes the line of each accepted connection's link. The notes tell them by ascending number.
 fn report_links<K: Sink>(hub: &Hub, net: &MemNet, watch: &Recorder, sink: &mut K) -> bool
     requires settled { Settled hub.now }
-    ensures { WritesText (all_link_lines (links_of (backlog_at hub.now) (net_state net.now).taken watch.now.notes)) (K.written sink.old) (K.written sink.new) (K.faults sink.old) (K.faults sink.new) result }
+    ensures { WritesTo K.Sink (all_link_lines (links_of (backlog_at hub.now) (net_state net.now).taken watch.now.notes)) sink.old sink.new result }
 {
     'notes: for place in 0..watch.count() {
         if !report_accepted(hub, net, &watch.at(place), sink) {
@@ -57,13 +58,38 @@ fn report_links<K: Sink>(hub: &Hub, net: &MemNet, watch: &Recorder, sink: &mut K
 /// Writes the line of a link where the note says that its connection was accepted, and nothing otherwise.
 fn report_accepted<K: Sink>(hub: &Hub, net: &MemNet, note: &Note<'_>, sink: &mut K) -> bool
     requires settled { Settled hub.now }
-    ensures { WritesText (all_link_lines (links_of (backlog_at hub.now) (net_state net.now).taken (note_value note.now ∷ []))) (K.written sink.old) (K.written sink.new) (K.faults sink.old) (K.faults sink.new) result }
+    ensures { WritesTo K.Sink (all_link_lines (links_of (backlog_at hub.now) (net_state net.now).taken (note_value note.now ∷ []))) sink.old sink.new result }
 {
     match accepted_by(note) {
         Some(conn) => report_link(conn, held_of(hub, conn), net.taken(conn), sink),
         None => true,
     }
 }
+
+/// Says that the links of a report are in the ranges of their lines.
+pub(crate) fn links_in_range(hub: &Hub, net: &MemNet, watch: &Recorder)
+    requires settled { Settled hub.now }
+    ensures { AreLinks (links_of (backlog_at hub.now) (net_state net.now).taken watch.now.notes) }
+{
+    'notes: for place in 0..watch.count() {
+        link_in_range(hub, net, &watch.at(place));
+    }
+}
+
+/// The same of the link of a connection that the note says was accepted, if there is one.
+fn link_in_range(hub: &Hub, net: &MemNet, note: &Note<'_>)
+    requires settled { Settled hub.now }
+    ensures { AreLinks (links_of (backlog_at hub.now) (net_state net.now).taken (note_value note.now ∷ [])) }
+{
+    if let Some(conn) = accepted_by(note) {
+        in_range(conn.0, held_of(hub, conn), net.taken(conn));
+    }
+}
+
+/// The numbers of a link are in range.
+fn in_range(conn: u64, held: u64, octets: &[u8])
+    ensures { IsLink (record { conn = conn; held = held; octets = octets.now }) }
+{}
 
 /// The connection that the note says was accepted.
 fn accepted_by(note: &Note<'_>) -> Option<Conn>

@@ -1,6 +1,6 @@
 //! Laws of runs over a net in memory. Each function says some, and does nothing.
 
-ghost use Rattle.std.specs.Prelude.{◌≡◌, ◌<◌, ◌+◌, ◌-◌, ◌^◌, ℕ, List, [], ◌∷◌, ◌++◌, true, false, not, length};
+ghost use Rattle.std.specs.Prelude.{◌≡◌, ◌<◌, ◌-◌, ◌^◌, ℕ, List, [], ◌∷◌, ◌++◌, true, false, not, length};
 ghost use Rattle.std.specs.List.{list_all, count_by};
 ghost use Rattle.ws_kinds.specs.ConfigValue.{ConfigValue};
 ghost use Rattle.ws_kinds.specs.NoteValue as note;
@@ -12,13 +12,14 @@ ghost use Rattle.mem_net.specs.Acts.{passes};
 ghost use Rattle.mem_net.specs.MemNet.{MemNetState, FollowsSchedule, net_state};
 ghost use Rattle.route_table.specs.Table.{RouteTable};
 ghost use Rattle.run_meaning.specs.Echo.{echo_server};
+ghost use Rattle.run_meaning.specs.Life.{LivedThroughout};
 ghost use Rattle.run_meaning.specs.Lines.{plain};
 ghost use Rattle.run_meaning.specs.Settled.{Settled};
 ghost use Rattle.run_meaning.specs.Right.{Right};
 ghost use Rattle.link_trait.specs.NetState.{NetState};
 ghost use Rattle.loop_runner.specs.declared.turns.Ran.TheVariants as ran;
 ghost use Rattle.loop_runner.specs.Turns.{Runs};
-ghost use Rattle.ws_program.specs.Replayed.{IsReplayed, is_stop, is_turn_act};
+ghost use Rattle.ws_program.specs.Replayed.{IsNew, IsReplayed, IsReport, links_of, is_stop, is_turn_act};
 
 /// A note sends at most one item to each connection, and the note of a turn none: so a connection has fewer items than there are
 /// notes, where the last note is that of a turn.
@@ -35,19 +36,28 @@ pub fn stopped()
         list_all (λ (answer : NetEvent). not (is_stop answer)) before ≡ true → (net_state net).passed ≡ passes net.acts ++ event.Stop ∷ [] }
 {}
 
-/// A run that is right and settled, over a net of which all acts were done and no write failed: what the acts send was given, and
-/// connections end as acts say.
+/// A run that is right and settled, over a net of which all acts were done and no write failed: each connection that is still read was
+/// given what the acts send, and no act ends it; and one is gone by its peer's end or a failed link only where an act says so.
 pub fn replayed()
-    ensures { (config : ConfigValue) (table : RouteTable) (notes : List NoteValue) (net : MemNetState) (held replies : ℕ → List ℕ) → FollowsSchedule net → net.whole ≡ true → net.done ≡ length net.acts →
-        Right (echo_server replies) config table notes (net_state net) tt held → Settled (echo_server replies) notes (net_state net) (record { pending = 0; gathered = []; backlog = held }) →
+    ensures { (config : ConfigValue) (table : RouteTable) (notes : List NoteValue) (net : MemNetState) (held replies : ℕ → List ℕ) →
+        FollowsSchedule net → net.whole ≡ true → net.done ≡ length net.acts →
+        Right (echo_server replies) config table notes (net_state net) tt held →
+        LivedThroughout (echo_server replies) table config.max_message notes (net_state net).given →
+        Settled (echo_server replies) notes (net_state net) (record { pending = 0; gathered = []; backlog = held }) →
         IsReplayed config table net.acts notes (net_state net) held replies }
+{}
+
+/// Reports with the same text have the same notes and the same links, since these are in the ranges of their lines.
+pub fn told_by_their_text()
+    ensures { (config : ConfigValue) (table : RouteTable) (acts others : List Act) (octets : List ℕ) (one : IsReport config table acts octets) (other : IsReport config table others octets) →
+        (one.notes ≡ other.notes) × (links_of one.held (net_state one.net).taken one.notes ≡ links_of other.held (net_state other.net).taken other.notes) }
 {}
 
 /// How a run over a net in memory ends, which follows a schedule, told nothing before, and is given more turns than the schedule has:
 /// it is stopped, once all acts were done.
 pub fn ran()
-    ensures stopped { (net : MemNetState) (old : NetState) (count turns : ℕ) → FollowsSchedule net → length net.acts + 1 < 2 ^ 64 - 1 → old.tells ≡ true → old.passed ≡ [] → Runs (ran.Stopped count) turns old (net_state net) →
+    ensures stopped { (net : MemNetState) (old : NetState) (count turns : ℕ) → IsNew net old → Runs (ran.Stopped count) turns old (net_state net) →
         (net.done ≡ length net.acts) × ((net_state net).passed ≡ passes net.acts ++ event.Stop ∷ []) }
-    ensures never_spent { (net : MemNetState) (old : NetState) (turns : ℕ) → FollowsSchedule net → length net.acts + 1 < 2 ^ 64 - 1 → old.tells ≡ true → old.passed ≡ [] → count_by is_turn_act net.acts < turns → Runs ran.Spent turns old (net_state net) → ⊥ }
-    ensures never_failed { (net : MemNetState) (old : NetState) (turns : ℕ) → FollowsSchedule net → length net.acts + 1 < 2 ^ 64 - 1 → old.tells ≡ true → old.passed ≡ [] → Runs ran.NetFault turns old (net_state net) → ⊥ }
+    ensures never_spent { (net : MemNetState) (old : NetState) (turns : ℕ) → IsNew net old → count_by is_turn_act net.acts < turns → Runs ran.Spent turns old (net_state net) → ⊥ }
+    ensures never_failed { (net : MemNetState) (old : NetState) (turns : ℕ) → IsNew net old → Runs ran.NetFault turns old (net_state net) → ⊥ }
 {}

@@ -1,5 +1,4 @@
-use Rattle.std.proofs.Common.{◌∙◌, sym, refl}
-use Rattle.frame_reader.proofs.HeaderLemmas.{same_first, same_over, refused_first, two_of, refused_second, refused_top, refused_over, whole_header}
+use Rattle.frame_reader.proofs.All.{◌∙◌, sym, refl, same_first, same_over, refused_first, two_of, refused_second, refused_top, refused_over, whole_header}
 use Rattle.frame_reader.proofs.header.header_at.Goals as goal
 
 pub returns-then-refuses_first : goal.returns-then-refuses_first

@@ -1,5 +1,4 @@
-use Rattle.std.proofs.Common.{arith}
-use Rattle.frame_reader.proofs.MaskLemmas.{unmasked_set}
+use Rattle.frame_reader.proofs.All.{arith, unmasked_set}
 use Rattle.frame_reader.proofs.mask.unmask.Goals as goal
 
 pub loop-octet-preserved : goal.loop-octet-preserved

@@ -1,5 +1,4 @@
-use Rattle.std.proofs.Common.{◌≡◌, ◌<◌, ◌++◌, take, drop}
-use Rattle.wire_meaning.specs.Mask.{unmasked}
+use Rattle.frame_reader.proofs.Below.{◌≡◌, ◌<◌, ◌++◌, take, drop, unmasked}
 use Rattle.frame_reader.proofs.mask.unmask.Given as goal
 
 abbrev pub invariant-loop-octet : goal.invariant-loop-octet

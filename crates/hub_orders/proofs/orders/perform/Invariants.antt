@@ -1,6 +1,4 @@
-use Rattle.std.proofs.Common.{take}
-use Rattle.hub_orders.specs.AnyOrders.{any_values}
-use Rattle.hub_notes.specs.Serving.{ServesAll}
+use Rattle.hub_orders.proofs.Below.{take, any_values, ServesAll}
 use Rattle.hub_orders.proofs.orders.perform.Given as goal
 
 abbrev pub invariant-walk : goal.invariant-walk

@@ -1,11 +1,5 @@
-use Rattle.std.proofs.Common.{[], ◌∷◌, refl, not, subst, sym, ap, ◌∙◌}
-use Rattle.ws_kinds.specs.OrderValue.{subscribe}
-use Rattle.ws_kinds.specs.declared.note.Why.TheVariants.{Memory}
+use Rattle.hub_orders.proofs.All.{[], ◌∷◌, refl, not, subst, sym, ap, ◌∙◌, subscribe, Memory, Server, by_note, Does, obeys_there, changed, refused_memory}
 use Rattle.ws_kinds.specs.NoteValue as note
-use Rattle.hub_lines.specs.State.{Server}
-use Rattle.run_meaning.specs.Steps.{by_note}
-use Rattle.hub_notes.specs.Calls.{Does}
-use Rattle.hub_orders.proofs.OrderLemmas.{changed, refused_memory, obeys_there}
 use Rattle.hub_orders.proofs.orders.subscribe_now.Goals as goal
 
 pub returns-then-has : goal.returns-then-has

@@ -1,15 +1,4 @@
-use Rattle.std.proofs.Common.{◌≡◌, List, ℕ, Some, None, refl, sym, ap, ◌∙◌, subst}
-use Rattle.upgrade_head.specs.Judged.{Judged, admit, answer_text}
-use Rattle.upgrade_head.specs.Texts.{reply_text}
-use Rattle.frame_reader.specs.Reader.{raw_of}
-use Rattle.hub_core.specs.At.{at}
-use Rattle.loop_runner.specs.Keeps.{beginning, intake_view, view_of}
-use Rattle.loop_runner.specs.Moments.{KeepsOne}
-use Rattle.loop_runner.proofs.AdmitLemmas.{keep_opened}
-use Rattle.loop_runner.proofs.HeadLemmas.{frames_of}
-use Rattle.loop_runner.proofs.KeepLemmas.{keep_one_then}
-use Rattle.loop_runner.proofs.StepLemmas.{steps_then, steps_but}
-use Rattle.loop_runner.specs.Steps.{But}
+use Rattle.loop_runner.proofs.All.{◌≡◌, List, ℕ, Some, None, refl, sym, ap, ◌∙◌, subst, Judged, admit, answer_text, reply_text, raw_of, at, beginning, intake_view, view_of, KeepsOne, keep_opened, frames_of, keep_one_then, steps_then, steps_but, But}
 use Rattle.loop_runner.proofs.admitting.admit.Goals as goal
 
 pub read_frames-requires-clause-frames : goal.read_frames-requires-clause-frames

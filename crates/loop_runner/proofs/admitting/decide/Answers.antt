@@ -1,5 +1,5 @@
-use Rattle.std.proofs.Common.{List, ℕ, sym, subst}
-use Rattle.upgrade_head.specs.Judged.{Judged, more, admit, refuse}
+use Rattle.loop_runner.proofs.All.{List, ℕ, sym, subst, Judged, admit, refuse}
+use Rattle.upgrade_head.specs.Judged.{more}
 use Rattle.loop_runner.proofs.admitting.decide.Goals as goal
 
 pub returns-in-More-clause-judged : goal.returns-in-More-clause-judged

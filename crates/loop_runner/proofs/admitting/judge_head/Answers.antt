@@ -1,14 +1,4 @@
-use Rattle.std.proofs.Common.{refl, ◌∙◌}
-use Rattle.ws_kinds.specs.declared.note.Phase.TheVariants.{Head}
-use Rattle.run_meaning.specs.Settled.{is_reading}
-use Rattle.hub_lines.specs.State.{phase_at}
-use Rattle.hub_notes.proofs.BoolLemmas.{clash}
-use Rattle.hub_core.proofs.CallLemmas.{of_here}
-use Rattle.loop_runner.specs.Keeps.{beginning}
-use Rattle.loop_runner.proofs.AdmitLemmas.{keep_waiting, keep_refused}
-use Rattle.loop_runner.proofs.HeadLemmas.{ends_reading}
-use Rattle.loop_runner.proofs.RunningLemmas.{taken_away}
-use Rattle.loop_runner.proofs.StepLemmas.{steps_but, steps_sends}
+use Rattle.loop_runner.proofs.All.{refl, ◌∙◌, Head, is_reading, phase_at, clash, of_here, beginning, keep_waiting, keep_refused, ends_reading, taken_away, steps_but, steps_sends}
 use Rattle.loop_runner.proofs.admitting.judge_head.Goals as goal
 
 pub returns-in-Refuse-clause-takes : goal.returns-in-Refuse-clause-takes

@@ -1,10 +1,4 @@
-use Rattle.std.proofs.Common.{List, ℕ, subst, rules}
-use Rattle.ws_kinds.specs.NoteValue as note
-use Rattle.ws_kinds.specs.EventValue.{opened}
-use Rattle.hub_notes.specs.Calls.{Proceeds}
-use Rattle.hub_core.specs.At.{at}
-use Rattle.loop_runner.specs.Moments.{ServesOrders}
-use Rattle.loop_runner.proofs.HeadLemmas.{steps_opened, opened_phase, opened_due}
+use Rattle.loop_runner.proofs.All.{List, ℕ, subst, rules, at, steps_opened, opened_phase, opened_due}
 use Rattle.loop_runner.proofs.admitting.open.Goals as goal
 
 pub returns-clause-steps : goal.returns-clause-steps

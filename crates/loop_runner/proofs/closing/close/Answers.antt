@@ -1,9 +1,4 @@
-use Rattle.std.proofs.Common.{◌≡◌, false, is_some, ◌∙◌, sym, rules}
-use Rattle.hub_lines.specs.State.{phase_at}
-use Rattle.loop_runner.specs.Steps.{Every}
-use Rattle.loop_runner.proofs.CloseLemmas.{kept_phase}
-use Rattle.loop_runner.proofs.RunningLemmas.{running_shut, running_steps}
-use Rattle.loop_runner.proofs.ViewLemmas.{views_shut}
+use Rattle.loop_runner.proofs.All.{◌≡◌, false, is_some, ◌∙◌, sym, rules, phase_at, Every, kept_phase, running_shut, running_steps, views_shut}
 use Rattle.loop_runner.proofs.closing.close.Goals as goal
 
 pub returns-then-is_none-clause-running : goal.returns-then-is_none-clause-running

@@ -1,5 +1,4 @@
-use Rattle.loop_runner.proofs.RunningLemmas.{running_tidied}
-use Rattle.loop_runner.specs.Steps.{Every}
+use Rattle.loop_runner.proofs.All.{running_tidied, Every}
 use Rattle.loop_runner.proofs.closing.close_all.Goals as goal
 
 pub returns-clause-keeps : goal.returns-clause-keeps

@@ -1,6 +1,4 @@
-use Rattle.loop_runner.specs.Steps.{Every}
-use Rattle.loop_runner.proofs.KeepLemmas.{keeps_on_then}
-use Rattle.loop_runner.proofs.StepLemmas.{steps_same}
+use Rattle.loop_runner.proofs.All.{Every, keeps_on_then, steps_same}
 use Rattle.loop_runner.proofs.closing.close_due.Goals as goal
 
 pub closed-init : goal.closed-init

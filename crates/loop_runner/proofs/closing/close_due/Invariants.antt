@@ -1,6 +1,4 @@
-use Rattle.std.specs.Prelude.{suc}
-use Rattle.loop_runner.specs.Moments.{moment, KeepsOn}
-use Rattle.loop_runner.specs.Steps.{weight_below}
+use Rattle.loop_runner.proofs.Below.{suc, moment, KeepsOn, weight_below}
 use Rattle.loop_runner.proofs.closing.close_due.Given as goal
 
 abbrev pub invariant-closed : goal.invariant-closed

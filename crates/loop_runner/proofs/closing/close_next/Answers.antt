@@ -1,11 +1,4 @@
-use Rattle.std.proofs.Common.{None, sym, subst, rules}
-use Rattle.hub_lines.specs.State.{HubState, server}
-use Rattle.hub_core.specs.Parting.{parting_value}
-use Rattle.loop_runner.specs.Keeps.{KeptAll, beginning}
-use Rattle.loop_runner.specs.Steps.{Every}
-use Rattle.loop_runner.proofs.CloseLemmas.{fewer_then, steps_taken, taken_fewer, taken_was}
-use Rattle.loop_runner.proofs.RunningLemmas.{running_steps}
-use Rattle.loop_runner.proofs.StepLemmas.{steps_then}
+use Rattle.loop_runner.proofs.All.{None, sym, subst, rules, HubState, server, parting_value, KeptAll, beginning, Every, fewer_then, steps_taken, taken_fewer, taken_was, running_steps, steps_then}
 use Rattle.loop_runner.proofs.closing.close_next.Goals as goal
 
 pub close-requires : goal.close-requires

@@ -1,26 +1,13 @@
-use Rattle.std.proofs.Common.{◌≡◌, List, ℕ, Some, refl, sym, ap, subst, rules}
+use Rattle.loop_runner.proofs.All.{◌≡◌, List, ℕ, Some, refl, sym, ap, subst, rules, EventValue, IsNoted, server, at, parting_value, IntakeView, event_for, intake_at, beginning, intake_view, ServesOrders, Every, keep_closed, steps_then, steps_noted}
 use Rattle.ws_kinds.specs.NoteValue as note
 use Rattle.ws_kinds.specs.EventValue as event
-use Rattle.ws_kinds.specs.EventValue.{EventValue}
-use Rattle.ws_kinds.specs.Watch.{IsNoted}
-use Rattle.hub_lines.specs.State.{server}
-use Rattle.hub_core.specs.At.{at}
-use Rattle.hub_core.specs.Parting.{parting_value}
-use Rattle.run_kept.specs.Kept.{IntakeView}
-use Rattle.run_kept.specs.Giving.{event_for}
-use Rattle.loop_runner.specs.Intakes.{intake_at}
-use Rattle.loop_runner.specs.Keeps.{beginning, intake_view}
-use Rattle.loop_runner.specs.Moments.{ServesOrders}
-use Rattle.loop_runner.specs.Steps.{Every}
-use Rattle.loop_runner.proofs.CloseLemmas.{keep_closed}
-use Rattle.loop_runner.proofs.StepLemmas.{steps_then, steps_noted}
 use Rattle.loop_runner.proofs.closing.give_closed.Goals as goal
 
 pub returns-in-Some-clause-steps : goal.returns-in-Some-clause-steps
-returns-in-Some-clause-steps g c = steps_then Every _ _ _ (steps_noted _ _ _ _ _ c.note.ensures (λ d. refl)) c.give.ensures.steps
+returns-in-Some-clause-steps g c = steps_then Every _ _ _ (steps_noted _ _ _ _ _ c.note.ensures (λ d. refl) refl) c.give.ensures.steps
 
 pub returns-in_default-clause-steps : goal.returns-in_default-clause-steps
-returns-in_default-clause-steps g c = steps_noted _ _ _ _ _ c.note.ensures (λ d. refl)
+returns-in_default-clause-steps g c = steps_noted _ _ _ _ _ c.note.ensures (λ d. refl) refl
 
 pub returns-in-Some-clause-kept : goal.returns-in-Some-clause-kept
 returns-in-Some-clause-kept g c = λ before out table start config views are k.

@@ -1,6 +1,4 @@
-use Rattle.std.proofs.Common.{◌≡◌, ◌∙◌, length, sym, rules}
-use Rattle.std.specs.BTreeMap.{btree_map_len}
-use Rattle.loop_runner.proofs.TidyLemmas.{all_entries}
+use Rattle.loop_runner.proofs.All.{◌≡◌, ◌∙◌, length, sym, rules, btree_map_len, all_entries}
 use Rattle.loop_runner.proofs.closing.tidy.Goals as goal
 
 pub returns-then-count-clause-entries : goal.returns-then-count-clause-entries

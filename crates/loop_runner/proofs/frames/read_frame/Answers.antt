@@ -1,14 +1,4 @@
-use Rattle.std.proofs.Common.{◌≡◌, Option, Some, None, false, sym, ap, ◌∙◌, subst}
-use Rattle.ws_kinds.specs.declared.note.Phase.{Phase}
-use Rattle.ws_kinds.specs.declared.note.Phase.TheVariants.{Open, Leaving}
-use Rattle.hub_lines.specs.State.{phase_at}
-use Rattle.hub_notes.specs.Answers.{has_frames}
-use Rattle.run_laws.proofs.HearLemmas.{step_is_read}
-use Rattle.loop_runner.specs.Keeps.{beginning}
-use Rattle.loop_runner.specs.Steps.{HasFrames}
-use Rattle.loop_runner.proofs.EventLemmas.{step_sound}
-use Rattle.loop_runner.proofs.FrameKeeps.{keep_rest}
-use Rattle.loop_runner.proofs.HeadLemmas.{frames_after, taken_after}
+use Rattle.loop_runner.proofs.All.{◌≡◌, Option, Some, None, false, sym, ap, ◌∙◌, subst, Phase, Open, Leaving, phase_at, has_frames, step_is_read, beginning, HasFrames, step_sound, keep_rest, frames_after, taken_after}
 use Rattle.loop_runner.proofs.frames.read_frame.Goals as goal
 
 pub take_open-requires-clause-sound : goal.take_open-requires-clause-sound

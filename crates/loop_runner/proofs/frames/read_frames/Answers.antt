@@ -1,8 +1,4 @@
-use Rattle.std.proofs.Common.{refl, ◌∙◌}
-use Rattle.loop_runner.specs.Steps.{Every}
-use Rattle.loop_runner.specs.Keeps.{beginning}
-use Rattle.loop_runner.proofs.StepLemmas.{steps_same, steps_then}
-use Rattle.loop_runner.proofs.KeepLemmas.{keep_one_same, keep_one_then}
+use Rattle.loop_runner.proofs.All.{refl, ◌∙◌, Every, beginning, steps_same, steps_then, keep_one_same, keep_one_then}
 use Rattle.loop_runner.proofs.frames.read_frames.Goals as goal
 
 pub steps-init : goal.steps-init

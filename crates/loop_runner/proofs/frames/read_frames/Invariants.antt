@@ -1,12 +1,5 @@
-use Rattle.std.specs.Prelude.{◌≡◌, [], Some, length}
-use Rattle.route_table.specs.Table.{RouteTable}
-use Rattle.frame_reader.specs.Reader.{ahead, max_of}
-use Rattle.hub_lines.specs.State.{phase_at}
-use Rattle.hub_lines.specs.Calls.{Ties}
-use Rattle.hub_core.specs.At.{at}
-use Rattle.loop_runner.specs.Steps.{Every, Steps, HasFrames}
-use Rattle.loop_runner.specs.Keeps.{view_of}
-use Rattle.loop_runner.specs.Moments.{moment, KeepsView}
+use Rattle.loop_runner.proofs.Below.{◌≡◌, [], Some, length, RouteTable, ahead, phase_at, Ties, at, Every, Steps, HasFrames, view_of, moment, KeepsView}
+use Rattle.frame_reader.specs.Reader.{max_of}
 use Rattle.loop_runner.proofs.frames.read_frames.Given as goal
 
 abbrev pub invariant-steps : goal.invariant-steps

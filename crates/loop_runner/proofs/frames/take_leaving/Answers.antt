@@ -1,14 +1,4 @@
-use Rattle.std.proofs.Common.{List, refl, ap, subst}
-use Rattle.ws_kinds.specs.declared.note.Phase.TheVariants.{Leaving}
-use Rattle.wire_meaning.specs.Event.{Event}
-use Rattle.frame_reader.specs.Step.{events_of}
-use Rattle.hub_notes.specs.Answers.{has_frames}
-use Rattle.hub_core.proofs.CallLemmas.{of_here}
-use Rattle.run_laws.specs.Readers.{IsRead}
-use Rattle.loop_runner.specs.Keeps.{beginning}
-use Rattle.loop_runner.proofs.FrameKeeps.{keep_more, keep_passed, keep_close, keep_failed}
-use Rattle.loop_runner.proofs.HeadLemmas.{ends_reading}
-use Rattle.loop_runner.proofs.StepLemmas.{steps_sends}
+use Rattle.loop_runner.proofs.All.{List, refl, ap, subst, Leaving, Event, events_of, has_frames, of_here, IsRead, beginning, keep_more, keep_passed, keep_close, keep_failed, ends_reading, steps_sends}
 use Rattle.loop_runner.proofs.frames.take_leaving.Goals as goal
 
 pub returns-in-Close-clause-steps : goal.returns-in-Close-clause-steps

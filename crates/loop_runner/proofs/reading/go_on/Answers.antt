@@ -1,8 +1,4 @@
-use Rattle.std.proofs.Common.{List, ℕ, Some, None, ◌∙◌, subst}
-use Rattle.hub_core.specs.At.{at}
-use Rattle.loop_runner.specs.Keeps.{beginning, view_of}
-use Rattle.loop_runner.specs.Moments.{KeepsOne}
-use Rattle.loop_runner.proofs.StepLemmas.{steps_but}
+use Rattle.loop_runner.proofs.All.{List, ℕ, Some, None, ◌∙◌, subst, at, beginning, view_of, KeepsOne, steps_but}
 use Rattle.loop_runner.proofs.reading.go_on.Goals as goal
 
 pub returns-clause-takes : goal.returns-clause-takes

@@ -1,17 +1,5 @@
-use Rattle.std.proofs.Common.{ℕ, refl, subst, rules}
-use Rattle.link_trait.specs.Net.{Reads}
+use Rattle.loop_runner.proofs.All.{ℕ, refl, subst, Reads, PeerEnd, LinkFailed, is_reading, phase_at, clash, beginning, But, gone_now, taken_away, count_of, front_of, keep_later, keep_gone, keep_lost, steps_then, steps_but, steps_failed, steps_notes, links_rose, steps_read}
 use Rattle.link_trait.specs.declared.net.NetRead.TheVariants as NetRead
-use Rattle.ws_kinds.specs.declared.note.Left.TheVariants.{PeerEnd, LinkFailed}
-use Rattle.run_meaning.specs.Settled.{is_reading}
-use Rattle.hub_lines.specs.State.{phase_at}
-use Rattle.hub_notes.proofs.BoolLemmas.{clash}
-use Rattle.loop_runner.specs.Keeps.{beginning}
-use Rattle.loop_runner.specs.Steps.{But}
-use Rattle.loop_runner.proofs.HeadLemmas.{gone_now}
-use Rattle.loop_runner.proofs.RunningLemmas.{taken_away}
-use Rattle.loop_runner.proofs.ReadKeepLemmas.{count_of, front_of, keep_later, keep_gone, keep_lost}
-use Rattle.loop_runner.proofs.StepLemmas.{steps_then, steps_but, steps_notes, steps_lost}
-use Rattle.loop_runner.proofs.TurnLemmas.{steps_read}
 use Rattle.loop_runner.proofs.reading.read.Goals as goal
 
 pub returns-in-Octets-clause-takes : goal.returns-in-Octets-clause-takes
@@ -33,7 +21,8 @@ pub returns-in-Failed-clause-takes : goal.returns-in-Failed-clause-takes
 returns-in-Failed-clause-takes g c =
     let away = gone_now c.args.conn.0 LinkFailed _ _ c.link_failed.ensures.advances in
     record {
-      steps = steps_then (But c.args.conn.0) _ _ _ (steps_read c.args.conn.0 _ _ _ _ _ _ c.read.ensures) (steps_but c.args.conn.0 _ _ (steps_lost _ _ c.link_failed.ensures));
+      steps = steps_failed c.args.conn.0 _ _ _ (steps_read c.args.conn.0 _ _ _ _ _ _ c.read.ensures)
+          (links_rose c.args.hub.now (g.N.Net.state c.args.out.now.net) (g.N.Net.state c.read.new.self) (g.W.Watch.told c.args.out.now.watch) c.in-Failed.ensures.faults) c.link_failed.ensures;
       asked = λ reads. clash (is_reading (phase_at c.link_failed.new.self c.args.conn.0)) away reads;
       taken = taken_away _ c.args.intake.now.reader away;
       max = refl;

@@ -1,12 +1,4 @@
-use Rattle.std.proofs.Common.{◌≡◌, Some, sym, subst, rules}
-use Rattle.hub_core.specs.At.{at}
-use Rattle.loop_runner.specs.declared.intakes.Intakes.{Intakes}
-use Rattle.loop_runner.specs.Intakes.{intake_at}
-use Rattle.loop_runner.specs.Keeps.{intake_view, with_view}
-use Rattle.loop_runner.specs.Steps.{Every, But, Running}
-use Rattle.loop_runner.proofs.RunningLemmas.{running_away, running_written, unread_away}
-use Rattle.loop_runner.proofs.StepLemmas.{steps_same}
-use Rattle.loop_runner.proofs.ViewLemmas.{written, views_written}
+use Rattle.loop_runner.proofs.All.{◌≡◌, Some, sym, subst, rules, at, Intakes, intake_at, intake_view, with_view, Every, But, Running, running_away, running_written, unread_away, steps_same, written, views_written}
 use Rattle.loop_runner.proofs.reading.readable.Goals as goal
 
 pub returns-then-not-is_read-clause-running : goal.returns-then-not-is_read-clause-running

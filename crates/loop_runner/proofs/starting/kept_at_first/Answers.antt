@@ -1,5 +1,4 @@
-use Rattle.loop_runner.specs.Keeps.{beginning}
-use Rattle.loop_runner.proofs.RightLemmas.{kept_at_first}
+use Rattle.loop_runner.proofs.All.{beginning, kept_at_first}
 use Rattle.loop_runner.proofs.starting.kept_at_first.Goals as goal
 
 pub returns : goal.returns

@@ -1,5 +1,4 @@
-use Rattle.loop_runner.specs.Keeps.{beginning}
-use Rattle.loop_runner.proofs.ThroughoutLemmas.{lived_first}
+use Rattle.loop_runner.proofs.All.{beginning, lived_first}
 use Rattle.loop_runner.proofs.starting.lived_at_first.Goals as goal
 
 pub returns : goal.returns

@@ -1,8 +1,5 @@
-use Rattle.std.proofs.Common.{◌≡◌, [], rules}
-use Rattle.hub_lines.specs.Calls.{Settled}
-use Rattle.loop_runner.specs.Intakes.{max_of}
-use Rattle.loop_runner.proofs.TurnLemmas.{ready_new}
+use Rattle.loop_runner.proofs.All.{◌≡◌, [], rules, ready_new}
 use Rattle.loop_runner.proofs.tests.run_with.Goals as goal
 
 pub run-ran-requires : goal.run-ran-requires
-run-ran-requires g c = ready_new c.new-intakes.result _ _ _ (search rules) (search rules) (search rules) (search rules) (search rules) c.new-intakes.ensures.none
+run-ran-requires g c = ready_new c.new-intakes.result _ _ _ (search rules) (search rules) (search rules) (search rules) c.new-intakes.ensures.none

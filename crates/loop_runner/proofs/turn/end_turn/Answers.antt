@@ -1,11 +1,4 @@
-use Rattle.loop_runner.specs.Steps.{Every}
-use Rattle.loop_runner.specs.Keeps.{beginning}
-use Rattle.loop_runner.proofs.RightLemmas.{settled_ended}
-use Rattle.loop_runner.proofs.RunningLemmas.{ready_of, running_steps, running_tidied}
-use Rattle.loop_runner.proofs.StepLemmas.{steps_ended}
-use Rattle.loop_runner.proofs.ThroughoutLemmas.{turn_last}
-use Rattle.loop_runner.proofs.TurnKeeps.{keep_ended}
-use Rattle.loop_runner.proofs.ViewLemmas.{views_tidied}
+use Rattle.loop_runner.proofs.All.{Every, beginning, settled_ended, ready_of, running_steps, running_tidied, steps_ended, turn_last, keep_ended, views_tidied}
 use Rattle.loop_runner.proofs.turn.end_turn.Goals as goal
 
 pub tidy-requires : goal.tidy-requires

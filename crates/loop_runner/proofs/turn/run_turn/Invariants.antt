@@ -1,11 +1,4 @@
-use Rattle.std.specs.Prelude.{◌≡◌, ℕ, None}
-use Rattle.hub_core.specs.At.{at}
-use Rattle.hub_notes.specs.Progress.{due_at}
-use Rattle.run_kept.specs.Ends.{AreThere}
-use Rattle.loop_runner.specs.Moments.{moment, IsKeptThen}
-use Rattle.loop_runner.specs.Steps.{Every, Grows, Running}
-use Rattle.loop_runner.specs.Turning.{WhereKept}
-use Rattle.loop_runner.specs.Turns.{PassesBetween}
+use Rattle.loop_runner.proofs.Below.{◌≡◌, ℕ, None, at, due_at, AreThere, moment, IsKeptThen, Every, Grows, NotesTurns, RisesBeyond, Running, WhereKept, PassesBetween}
 use Rattle.loop_runner.proofs.turn.run_turn.Given as goal
 
 abbrev pub invariant-events : goal.invariant-events
@@ -18,6 +11,8 @@ invariant-events g l =
       there : AreThere (at g.N.Net g.W.Watch l.fn.hub l.fn.out) → AreThere (at g.N.Net g.W.Watch l.hub l.out);
       passed : PassesBetween (g.N.Net.state l.fn.out.net) (g.N.Net.state l.out.net);
       grows : Grows (at g.N.Net g.W.Watch l.fn.hub l.fn.out) (at g.N.Net g.W.Watch l.hub l.out);
+      turns : NotesTurns 0 (g.W.Watch.told l.fn.out.watch) (g.W.Watch.told l.out.watch);
+      links : RisesBeyond 0 0 (at g.N.Net g.W.Watch l.fn.hub l.fn.out) (at g.N.Net g.W.Watch l.hub l.out);
       kept : WhereKept l.fn.routes l.fn.intakes old new (IsKeptThen l.intakes new);
     }
 

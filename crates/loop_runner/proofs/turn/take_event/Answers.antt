@@ -1,15 +1,6 @@
-use Rattle.std.proofs.Common.{refl}
-use Rattle.hub_lines.specs.State.{server}
+use Rattle.loop_runner.proofs.All.{refl, server, beginning, moment, grows_next, turns_same, running_freed, steps_makes, keep_readable, keep_tick, keep_writable, links_next, passes_next, there_next, event_between, event_ended}
 use Rattle.link_trait.specs.declared.net.NetEvent.TheVariants as event
 use Rattle.loop_runner.specs.declared.turn.Turned.TheVariants as turned
-use Rattle.loop_runner.specs.Keeps.{beginning}
-use Rattle.loop_runner.specs.Moments.{moment}
-use Rattle.loop_runner.proofs.GrowLemmas.{grows_next}
-use Rattle.loop_runner.proofs.RunningLemmas.{running_freed}
-use Rattle.loop_runner.proofs.StepLemmas.{steps_makes}
-use Rattle.loop_runner.proofs.TurnKeeps.{keep_readable, keep_tick, keep_writable}
-use Rattle.loop_runner.proofs.TurnLemmas.{passes_next, there_next}
-use Rattle.loop_runner.proofs.TurningLemmas.{event_between, event_ended}
 use Rattle.loop_runner.proofs.turn.take_event.Goals as goal
 
 pub returns-in-Accept : goal.returns-in-Accept
@@ -42,7 +33,7 @@ returns-in-Tick g c =
     (moment g.N.Net g.W.Watch g.H.Handler c.tick.new.self c.tick.new.out c.args.handler.now)
     (moment g.N.Net g.W.Watch g.H.Handler c.close_all-in-Tick.new.hub c.close_all-in-Tick.new.out c.close_all-in-Tick.new.handler)
     next refl next.event.room steps.onward
-    (λ few start config views are k. (views, are, keep_tick (beginning g.H.Handler start config c.args.routes.now) c.args.hub.now (g.N.Net.state c.args.out.now.net) _ _ _ views _ next few ticked.makes ticked.appends ticked.table k))
+    (λ few start config views are k. (views, are, keep_tick (beginning g.H.Handler start config c.args.routes.now) c.args.hub.now (g.N.Net.state c.args.out.now.net) _ _ _ views _ c.requires.none next few ticked.makes ticked.appends ticked.table k))
     (λ there. steps.there (there_next _ c.args.hub.now _ _ (g.W.Watch.told c.args.out.now.watch) next next.event.links.live there)) c.close_all-in-Tick.ensures.keeps c.close_all-in-Tick.ensures.none
 
 pub returns-in-Writable : goal.returns-in-Writable
@@ -54,9 +45,11 @@ returns-in-Writable g c =
         none = c.requires.none;
         fell = next.event.room;
         passed = passes_next (event.Writable c.in-Writable.field-0) _ _ next refl;
+        turns = turns_same (g.W.Watch.told c.args.out.now.watch);
       };
       ended = tt {0};
       grows = grows_next _ _ _ _ _ next;
+      links = links_next (event.Writable c.in-Writable.field-0) c.args.hub.now (g.N.Net.state c.args.out.now.net) (g.N.Net.state c.next.new.self) (g.W.Watch.told c.args.out.now.watch) next;
       there = λ there. there_next _ c.args.hub.now _ _ (g.W.Watch.told c.args.out.now.watch) next next.event.live there;
       kept = λ start config views few are k. (views, are, keep_writable (beginning g.H.Handler start config c.args.routes.now) c.args.hub.now (g.N.Net.state c.args.out.now.net) _ _ _ views _ next k);
       settled = tt {0};

@@ -1,7 +1,5 @@
-use Rattle.std.proofs.Common.{◌+◌, arith, rules}
+use Rattle.loop_runner.proofs.All.{◌+◌, arith, rules, at, passed_none, fails_beyond, turns_last, turns_more, turns_stop, turns_none, turns_then, run_made}
 use Rattle.loop_runner.specs.declared.turn.Turned.TheVariants as turned
-use Rattle.loop_runner.proofs.TurnLemmas.{turns_none as passed_none, turns_last, turns_more, turns_stop, turns_fail}
-use Rattle.loop_runner.proofs.TurningLemmas.{turns_none, turns_then, run_made}
 use Rattle.loop_runner.proofs.turns.run.Goals as goal
 
 pub turns-init : goal.turns-init
@@ -15,16 +13,18 @@ turns-preserved g c =
 pub returns-in-Stop : goal.returns-in-Stop
 returns-in-Stop g c =
     let turn = c.in-Stop.ensures in
-    run_made c.args.routes.now _ _ (c.turns.turn + 1) _ _ _ _ (λ one. omega arith) (omega arith, omega (arith, c.turns-test.true), turns_stop c.turns.turn _ _ _ c.turns.invariant.passed turn.passed)
-    (turns_then c.args.routes.now c.turns.turn turned.Stop _ _ _ _ _ _ c.turns.invariant.made turn)
+    let made = turns_then c.args.routes.now c.turns.turn turned.Stop _ _ _ _ _ _ c.turns.invariant.made turn in
+    run_made c.args.routes.now _ _ (c.turns.turn + 1) _ _ _ _ (λ one. omega arith) (omega arith, omega (arith, c.turns-test.true), turns_stop c.turns.turn _ _ _ c.turns.invariant.passed turn.passed) (tt {0}) made.turns made
 
 pub returns-in-Failed : goal.returns-in-Failed
 returns-in-Failed g c =
     let turn = c.in-Failed.ensures in
     let passed = c.turns.invariant.passed in
+    let seen = at g.N.Net g.W.Watch in
+    let failed = fails_beyond (seen c.args.hub.now c.args.out.now) (seen c.turns.hub c.turns.out) (seen c.run_turn.new.hub c.run_turn.new.out) passed.faults c.turns.invariant.made.links turn.passed.faults turn.failed in
+    let made = turns_then c.args.routes.now c.turns.turn turned.Failed _ _ _ _ _ _ c.turns.invariant.made turn in
     run_made c.args.routes.now _ _ (c.turns.turn + 1) _ _ _ _ (λ one. omega arith)
-    (c.turns.turn, omega (arith, c.turns-test.true), turns_last c.turns.turn turned.Failed _ _ _ passed turn.passed, turns_fail c.turns.turn _ _ _ passed turn.passed turn.failed)
-    (turns_then c.args.routes.now c.turns.turn turned.Failed _ _ _ _ _ _ c.turns.invariant.made turn)
+    (c.turns.turn, omega (arith, c.turns-test.true), turns_last c.turns.turn turned.Failed _ _ _ passed turn.passed, failed.rose) failed (c.turns.turn + 1, omega arith, omega (arith, c.turns-test.true), made.turns) made
 
 pub returns : goal.returns
-returns g c = run_made c.args.routes.now _ _ c.turns.turn _ _ _ _ (λ one. omega (arith, one, c.turns-test.false)) (search rules) c.turns.invariant.made
+returns g c = run_made c.args.routes.now _ _ c.turns.turn _ _ _ _ (λ one. omega (arith, one, c.turns-test.false)) (search rules) (tt {0}) (search rules) c.turns.invariant.made

@@ -1,7 +1,4 @@
-use Rattle.std.specs.Prelude.{[]}
-use Rattle.loop_runner.specs.Moments.{moment}
-use Rattle.loop_runner.specs.Turning.{MakesTurns}
-use Rattle.loop_runner.specs.Turns.{PassesTurns}
+use Rattle.loop_runner.proofs.Below.{[], moment, MakesTurns, PassesTurns}
 use Rattle.loop_runner.proofs.turns.run.Given as goal
 
 abbrev pub invariant-turns : goal.invariant-turns

@@ -1,11 +1,5 @@
-use Rattle.std.proofs.Common.{◌≡◌, ◌++◌, ◌∷◌, [], refl, sym, ap, ◌∙◌, arith, length, take, slice_set}
-use Rattle.mem_net.specs.LinkState.{LinkState}
-use Rattle.mem_net.specs.Acts.{arrivals}
-use Rattle.mem_net.specs.MemNet.{new_links}
+use Rattle.mem_net.proofs.All.{◌≡◌, ◌++◌, ◌∷◌, [], refl, sym, ap, ◌∙◌, arith, length, take, slice_set, LinkState, arrivals, new_links, sound_rises, read_at, sound_take, sends_arrived, place_made, links_arrive, links_send}
 use Rattle.link_trait.specs.declared.act.Act.TheVariants as act
-use Rattle.mem_net.proofs.Schedules.{sound_rises}
-use Rattle.mem_net.proofs.Acting.{read_at}
-use Rattle.mem_net.proofs.Preparing.{sound_take, sends_arrived, place_made, links_arrive, links_send}
 use Rattle.mem_net.proofs.mem_net.prepare.Goals as goal
 
 pub find-requires : goal.find-requires

@@ -1,5 +1,4 @@
-use Rattle.run_laws.proofs.AgreeLemmas.{agrees_call}
-use Rattle.run_laws.proofs.StepLemmas.{at_steps}
+use Rattle.run_laws.proofs.All.{agrees_call, at_steps}
 use Rattle.run_laws.proofs.agreeing.after_a_call.Goals as goal
 
 pub returns : goal.returns

@@ -1,5 +1,4 @@
-use Rattle.run_laws.proofs.AgreeLemmas.{agrees_closed}
-use Rattle.run_laws.proofs.HubLemmas.{due_taken}
+use Rattle.run_laws.proofs.All.{agrees_closed, due_taken}
 use Rattle.run_laws.proofs.agreeing.after_a_closed_event.Goals as goal
 
 pub returns : goal.returns

@@ -1,10 +1,4 @@
-use Rattle.std.proofs.Common.{◌++◌, map, None, refl, subst}
-use Rattle.frame_reader.specs.declared.step.Step.{Step}
-use Rattle.frame_reader.specs.declared.step.Step.TheVariants.{Close}
-use Rattle.frame_reader.specs.Step.{HasStepped, events_of}
-use Rattle.run_meaning.specs.Life.{read}
-use Rattle.run_laws.specs.Readers.{reader_view}
-use Rattle.run_laws.proofs.HearLemmas.{step_is_read, frames_read, frames_end}
+use Rattle.run_laws.proofs.All.{◌++◌, map, None, refl, subst, Step, Close, HasStepped, events_of, read, reader_view, step_is_read, frames_read, frames_end}
 use Rattle.run_laws.proofs.tests.is_close.Goals as goal
 
 pub returns-in-Close : goal.returns-in-Close

@@ -1,9 +1,4 @@
-use Rattle.std.proofs.Common.{None, subst}
-use Rattle.frame_reader.specs.declared.step.Step.{Step}
-use Rattle.frame_reader.specs.declared.step.Step.TheVariants.{Ping}
-use Rattle.frame_reader.specs.Step.{HasStepped, events_of}
-use Rattle.run_laws.specs.Readers.{reader_view}
-use Rattle.run_laws.proofs.HearLemmas.{step_is_read, frames_read}
+use Rattle.run_laws.proofs.All.{None, subst, Step, Ping, HasStepped, events_of, reader_view, step_is_read, frames_read}
 use Rattle.run_laws.proofs.tests.is_ping.Goals as goal
 
 pub returns-in-Ping : goal.returns-in-Ping

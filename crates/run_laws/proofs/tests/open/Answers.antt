@@ -1,7 +1,4 @@
-use Rattle.std.proofs.Common.{◌≤◌, ℕ, List, length, subst, ◌∙◌}
-use Rattle.upgrade_head.specs.Judged.{admit, Judged}
-use Rattle.run_laws.specs.Readers.{reader_view}
-use Rattle.run_laws.proofs.HearLemmas.{head_admitted}
+use Rattle.run_laws.proofs.All.{◌≤◌, ℕ, List, length, subst, ◌∙◌, admit, Judged, reader_view, head_admitted}
 use Rattle.run_laws.proofs.tests.open.Goals as goal
 
 pub returns-in-Admit-clause-opens : goal.returns-in-Admit-clause-opens

@@ -1,5 +1,4 @@
-use Rattle.run_laws.specs.Readers.{reader_view}
-use Rattle.run_laws.proofs.HearLemmas.{head_fed, frames_fed}
+use Rattle.run_laws.proofs.All.{reader_view, head_fed, frames_fed}
 use Rattle.run_laws.proofs.tests.take.Goals as goal
 
 pub returns-clause-head : goal.returns-clause-head

@@ -1,7 +1,4 @@
-use Rattle.std.proofs.Common.{◌≡◌, map, drop}
-use Rattle.ws_kinds.specs.NoteValue.{note_value}
-use Rattle.run_meaning.specs.Notes.{window}
-use Rattle.run_meaning.specs.Lines.{is_refused}
+use Rattle.run_meaning.proofs.Below.{◌≡◌, map, drop, note_value, window, is_refused}
 use Rattle.run_meaning.proofs.plain.is_refused.Given as goal
 
 abbrev pub invariant-walk : goal.invariant-walk

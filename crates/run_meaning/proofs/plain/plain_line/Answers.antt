@@ -1,9 +1,4 @@
-use Rattle.std.proofs.Common.{◌≡◌, List, [], map, drop, drop_of_length-le, refl, sym, ap, ◌∙◌, arith}
-use Rattle.ws_kinds.specs.declared.note.Note.{Note}
-use Rattle.ws_kinds.specs.NoteValue.{note_value}
-use Rattle.run_meaning.specs.Echo.{EchoLine, echo_lines, echo_start}
-use Rattle.run_meaning.specs.View.{line_value}
-use Rattle.run_meaning.proofs.EchoLemmas.{world_view, lines_phase}
+use Rattle.run_meaning.proofs.All.{◌≡◌, List, [], map, drop, drop_of_length-le, refl, sym, ap, ◌∙◌, arith, Note, note_value, EchoLine, echo_lines, echo_start, line_value, world_view, lines_phase}
 use Rattle.run_meaning.proofs.plain.plain_line.Goals as goal
 
 -- the phase is the same for every text of the reply

@@ -1,7 +1,4 @@
-use Rattle.std.proofs.Common.{◌≡◌, map, drop}
-use Rattle.ws_kinds.specs.NoteValue.{note_value}
-use Rattle.run_meaning.specs.Echo.{echo_lines, echo_start}
-use Rattle.run_meaning.specs.View.{line_value}
+use Rattle.run_meaning.proofs.Below.{◌≡◌, map, drop, note_value, echo_lines, echo_start, line_value}
 use Rattle.run_meaning.proofs.plain.plain_line.Given as goal
 
 abbrev pub invariant-walk : goal.invariant-walk

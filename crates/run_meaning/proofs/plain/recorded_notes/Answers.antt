@@ -1,8 +1,4 @@
-use Rattle.std.proofs.Common.{◌≡◌, ◌+◌, ℕ, suc, List, [], ◌∷◌, ◌++◌, Some, map, take, slice_get, sym, ap, ◌∙◌, arith}
-use Rattle.std.proofs.lemmas.List.{map-append}
-use Rattle.ws_kinds.specs.declared.note.Note.{Note}
-use Rattle.ws_kinds.specs.NoteValue.{NoteValue, note_value}
-use Rattle.run_meaning.proofs.Underway.{take_one}
+use Rattle.run_meaning.proofs.All.{◌≡◌, ◌+◌, ℕ, suc, List, [], ◌∷◌, ◌++◌, Some, map, take, slice_get, sym, ap, ◌∙◌, arith, map-append, Note, NoteValue, note_value, take_one}
 use Rattle.run_meaning.proofs.plain.recorded_notes.Goals as goal
 
 one_more : (place : ℕ) (kept all : List NoteValue) (next : NoteValue) → kept ≡ take place all → Some next ≡ slice_get all place → kept ++ next ∷ [] ≡ take (place + 1) all

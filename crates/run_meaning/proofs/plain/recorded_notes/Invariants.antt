@@ -1,5 +1,4 @@
-use Rattle.std.proofs.Common.{◌≡◌, map, take}
-use Rattle.ws_kinds.specs.NoteValue.{note_value}
+use Rattle.run_meaning.proofs.Below.{◌≡◌, map, take, note_value}
 use Rattle.run_meaning.proofs.plain.recorded_notes.Given as goal
 
 abbrev pub invariant-walk : goal.invariant-walk

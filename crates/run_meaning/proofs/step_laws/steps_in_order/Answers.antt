@@ -1,5 +1,4 @@
-use Rattle.run_meaning.proofs.NoteLemmas.{notes_of-append}
-use Rattle.run_meaning.proofs.StepLemmas.{standing-append, items-append}
+use Rattle.run_meaning.proofs.All.{notes_of-append, standing-append, items-append}
 use Rattle.run_meaning.proofs.step_laws.steps_in_order.Goals as goal
 
 pub returns : goal.returns

@@ -1,5 +1,4 @@
-use Rattle.std.proofs.Common.{sym}
-use Rattle.schedule_text.proofs.Fronts.{count_at_place, count_at_end}
+use Rattle.schedule_text.proofs.All.{sym, count_at_place, count_at_end}
 use Rattle.schedule_text.proofs.cursor.digit_count.Goals as goal
 
 pub returns-in-Some : goal.returns-in-Some

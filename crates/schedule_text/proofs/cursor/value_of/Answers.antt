@@ -1,5 +1,4 @@
-use Rattle.std.proofs.Common.{sym, ◌∙◌}
-use Rattle.schedule_text.proofs.Fronts.{text_is_read}
+use Rattle.schedule_text.proofs.All.{sym, ◌∙◌, text_is_read}
 use Rattle.schedule_text.proofs.cursor.value_of.Goals as goal
 
 pub returns-in_err-ok : goal.returns-in_err-ok

@@ -1,12 +1,4 @@
-use Rattle.std.proofs.Common.{◌∙◌, [], List, subst}
-use Rattle.link_trait.specs.declared.act.Act.{Act}
-use Rattle.std.specs.List.{flat_map, AllByRecursion}
-use Rattle.std.proofs.lemmas.List.{take_all}
-use Rattle.schedule_text.specs.Spelling.{SendsOctets, spelled, schedule_text}
-use Rattle.schedule_text.specs.Output.{Fails}
-use Rattle.schedule_text.proofs.Outputs.{fails_more}
-use Rattle.schedule_text.proofs.Printed.{prints_next, prints_part, sends_next}
-use Rattle.schedule_text.proofs.Again.{read_again}
+use Rattle.schedule_text.proofs.All.{◌∙◌, [], List, subst, Act, flat_map, AllByRecursion, take_all, SendsOctets, spelled, schedule_text, Fails, fails_more, prints_next, prints_part, sends_next, read_again}
 use Rattle.schedule_text.proofs.printing.print.Goals as goal
 
 pub returns-then-not-write_word-clause-written : goal.returns-then-not-write_word-clause-written

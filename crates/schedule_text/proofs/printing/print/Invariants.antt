@@ -1,7 +1,4 @@
-use Rattle.std.proofs.Common.{[], take}
-use Rattle.std.specs.List.{AllByRecursion}
-use Rattle.schedule_text.specs.Spelling.{SendsOctets, schedule_text}
-use Rattle.schedule_text.specs.Output.{Puts}
+use Rattle.schedule_text.proofs.Below.{[], take, AllByRecursion, SendsOctets, schedule_text, Puts}
 use Rattle.schedule_text.proofs.printing.print.Given as goal
 
 abbrev pub invariant-acts : goal.invariant-acts

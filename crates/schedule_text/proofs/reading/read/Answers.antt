@@ -1,9 +1,4 @@
-use Rattle.std.proofs.Common.{arith}
-use Rattle.std.specs.Prelude.{Some}
-use Rattle.std.proofs.lemmas.Bool.Decides.{Decides-eqb}
-use Rattle.std.proofs.lemmas.Slice.Eq.{strip_prefix_is}
-use Rattle.schedule_text.specs.Spelling.{header}
-use Rattle.schedule_text.proofs.Unique.{only_text, only_refusal}
+use Rattle.schedule_text.proofs.All.{arith, Some, Decides-eqb, strip_prefix_is, header, only_text, only_refusal}
 use Rattle.schedule_text.proofs.reading.read.Goals as goal
 
 pub returns-clause-every_text : goal.returns-clause-every_text

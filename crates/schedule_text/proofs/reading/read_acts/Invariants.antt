@@ -1,6 +1,4 @@
-use Rattle.std.proofs.Common.{◌≡◌, ◌++◌, ℕ, ◌≤◌, List, length}
-use Rattle.schedule_text.specs.Spelling.{header}
-use Rattle.schedule_text.specs.Reader.{IsAt}
+use Rattle.schedule_text.proofs.Below.{◌≡◌, ◌++◌, ℕ, ◌≤◌, List, length, header, IsAt}
 use Rattle.schedule_text.proofs.reading.read_acts.Given as goal
 
 abbrev pub invariant-lines : goal.invariant-lines

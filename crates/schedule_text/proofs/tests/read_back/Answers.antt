@@ -1,6 +1,4 @@
-use Rattle.std.proofs.Common.{◌≡◌, ℕ, List, ◌++◌, refl, ap, ◌∙◌}
-use Rattle.schedule_text.specs.Spelling.{schedule_text}
-use Rattle.schedule_text.proofs.Again.{reads_back}
+use Rattle.schedule_text.proofs.All.{◌≡◌, ℕ, List, ◌++◌, refl, ap, ◌∙◌, schedule_text, reads_back}
 use Rattle.schedule_text.proofs.tests.read_back.Goals as goal
 
 pub returns : goal.returns

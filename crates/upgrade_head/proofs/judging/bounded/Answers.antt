@@ -1,5 +1,4 @@
-use Rattle.std.proofs.Common.{arith, sym}
-use Rattle.std.proofs.lemmas.List.{take_all}
+use Rattle.upgrade_head.proofs.All.{arith, sym, take_all}
 use Rattle.upgrade_head.proofs.judging.bounded.Goals as goal
 
 pub returns-then-octets-lt-MOST_OCTETS-clause-value : goal.returns-then-octets-lt-MOST_OCTETS-clause-value

@@ -1,7 +1,4 @@
-use Rattle.std.proofs.Common.{ℕ, Option, Some, None, subst, sym, ap, ◌∙◌}
-use Rattle.memchr.specs.Find.{FindsNeedle}
-use Rattle.upgrade_head.specs.Head.{empty_line, end_behind}
-use Rattle.upgrade_head.proofs.HeadLemmas.{end-None, end-Some}
+use Rattle.upgrade_head.proofs.All.{ℕ, Option, Some, None, subst, sym, ap, ◌∙◌, FindsNeedle, empty_line, end_behind, end-None, end-Some}
 use Rattle.upgrade_head.proofs.judging.head_end.Goals as goal
 
 pub returns-in-Some-clause-value : goal.returns-in-Some-clause-value

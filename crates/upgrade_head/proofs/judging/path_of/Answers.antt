@@ -1,5 +1,4 @@
-use Rattle.std.proofs.Common.{sym, ◌∙◌}
-use Rattle.upgrade_head.proofs.PathLemmas.{before-Some, before-None}
+use Rattle.upgrade_head.proofs.All.{sym, ◌∙◌, before-Some, before-None}
 use Rattle.upgrade_head.proofs.judging.path_of.Goals as goal
 
 pub returns-in-Some : goal.returns-in-Some

@@ -1,5 +1,4 @@
-use Rattle.std.proofs.Common.{refl, ◌∙◌}
-use Rattle.upgrade_head.proofs.KeyLemmas.{whole_chunk, key_is}
+use Rattle.upgrade_head.proofs.All.{refl, ◌∙◌, whole_chunk, key_is}
 use Rattle.upgrade_head.proofs.key.key_of.Goals as goal
 
 pub returns : goal.returns

@@ -1,5 +1,4 @@
-use Rattle.std.proofs.Common.{rules, codes}
-use Rattle.upgrade_head.proofs.TextLemmas.{three_unless}
+use Rattle.upgrade_head.proofs.All.{rules, codes, three_unless}
 use Rattle.upgrade_head.proofs.texts.put_protocol.Goals as goal
 
 pub returns-then-not-is_empty-clause-line : goal.returns-then-not-is_empty-clause-line

@@ -1,8 +1,4 @@
-use Rattle.std.proofs.Common.{ℕ, Bool, List, ◌+◌, drop, slice_range, sym, ap, ◌∙◌, arith}
-use Rattle.std.specs.List.{list_any}
-use Rattle.std.proofs.lemmas.Bool.Decides.{nat_tests}
-use Rattle.upgrade_head.specs.Word.{is_element, parts_after}
-use Rattle.upgrade_head.proofs.WordLemmas.{after_comma, after_other}
+use Rattle.upgrade_head.proofs.All.{ℕ, Bool, List, ◌+◌, drop, slice_range, sym, ap, ◌∙◌, arith, list_any, nat_tests, is_element, parts_after, after_comma, after_other}
 use Rattle.upgrade_head.proofs.word.lists.Goals.{then-value-i-eq44+else-is_element, else-value-i-eq44}
 use Rattle.upgrade_head.proofs.word.lists.Goals as goal
 

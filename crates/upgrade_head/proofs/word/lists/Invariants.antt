@@ -1,6 +1,4 @@
-use Rattle.std.proofs.Common.{◌≡◌, ◌≤◌, drop, slice_range}
-use Rattle.std.specs.List.{list_any}
-use Rattle.upgrade_head.specs.Word.{is_element, lists, parts_after}
+use Rattle.upgrade_head.proofs.Below.{◌≡◌, ◌≤◌, drop, slice_range, list_any, is_element, lists, parts_after}
 use Rattle.upgrade_head.proofs.word.lists.Given as goal
 
 abbrev pub invariant-loop-i : goal.invariant-loop-i

@@ -1,7 +1,4 @@
-use Rattle.std.proofs.Common.{◌≡◌, ℕ, List, length, reverse, slice_range, sym, ap, ◌∙◌, arith}
-use Rattle.std.proofs.lemmas.List.{reverse-reverse}
-use Rattle.httparse.specs.Grammar.{skip_ows, trim_ows}
-use Rattle.httparse.proofs.TrimLemmas.{skip_ows_yes, skip_ows_no, slice_first, slice_last, slice_empty}
+use Rattle.upgrade_head.proofs.All.{◌≡◌, ℕ, List, length, reverse, slice_range, sym, ap, ◌∙◌, arith, reverse-reverse, skip_ows, trim_ows, skip_ows_yes, skip_ows_no, slice_first, slice_last, slice_empty}
 use Rattle.upgrade_head.proofs.word.trimmed.Goals.{then-front-test+else-is_blank, else-front-test, then-back-test+else-is_blank-2, else-back-test}
 use Rattle.upgrade_head.proofs.word.trimmed.Goals as goal
 

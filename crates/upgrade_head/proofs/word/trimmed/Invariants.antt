@@ -1,5 +1,4 @@
-use Rattle.std.proofs.Common.{◌≡◌, ◌-◌, ◌≤◌, length, reverse, slice_range}
-use Rattle.httparse.specs.Grammar.{skip_ows, trim_ows}
+use Rattle.upgrade_head.proofs.Below.{◌≡◌, ◌-◌, ◌≤◌, length, reverse, slice_range, skip_ows, trim_ows}
 use Rattle.upgrade_head.proofs.word.trimmed.Given as goal
 
 abbrev pub invariant-front : goal.invariant-front

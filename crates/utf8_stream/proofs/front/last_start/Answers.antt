@@ -1,7 +1,4 @@
-use Rattle.std.proofs.Common.{◌≡◌, ◌+◌, ◌-◌, ◌<◌, length, get_or, drop, sym, ap, subst, arith, length-drop}
-use Rattle.std.proofs.lemmas.List.{take_all, take_rest, get_or-drop}
-use Rattle.std.specs.Prelude.{IsUtf8}
-use Rattle.utf8_stream.proofs.FrontLemmas.{text_before_lead, text_without_lead}
+use Rattle.utf8_stream.proofs.All.{◌≡◌, ◌+◌, ◌-◌, ◌<◌, length, get_or, drop, sym, ap, subst, arith, length-drop, take_all, take_rest, get_or-drop, IsUtf8, text_before_lead, text_without_lead}
 use Rattle.utf8_stream.proofs.front.last_start.Goals as goal
 
 pub returns-in-Some-clause-whole : goal.returns-in-Some-clause-whole

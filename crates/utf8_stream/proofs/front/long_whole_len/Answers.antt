@@ -1,8 +1,4 @@
-use Rattle.std.proofs.Common.{ℕ, List, refl, ap, sym, subst, ◌∙◌}
-use Rattle.std.proofs.lemmas.List.{take_rest}
-use Rattle.wire_meaning.specs.Text.{is_text_front}
-use Rattle.utf8_stream.specs.Unfinished.{IsWholeUpTo}
-use Rattle.utf8_stream.proofs.FrontLemmas.{IsWholeUpTo-behind, is_text_front-drop}
+use Rattle.utf8_stream.proofs.All.{ℕ, List, refl, ap, sym, subst, ◌∙◌, take_rest, is_text_front, IsWholeUpTo, IsWholeUpTo-behind, is_text_front-drop}
 use Rattle.utf8_stream.proofs.front.long_whole_len.Goals as goal
 
 pub returns-in_err-rest : goal.returns-in_err-rest

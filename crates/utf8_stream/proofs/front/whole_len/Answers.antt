@@ -1,8 +1,4 @@
-use Rattle.std.proofs.Common.{◌≡◌, true, sym, ap, subst, ◌∙◌}
-use Rattle.std.specs.Prelude.{is_none}
-use Rattle.wire_meaning.specs.Text.{is_text_front}
-use Rattle.utf8_stream.specs.Unfinished.{IsWholeUpTo}
-use Rattle.utf8_stream.proofs.FrontLemmas.{IsWholeUpTo-text, IsWholeUpTo-cut, is_text_front-from_error}
+use Rattle.utf8_stream.proofs.All.{◌≡◌, true, sym, ap, subst, ◌∙◌, is_none, is_text_front, IsWholeUpTo, IsWholeUpTo-text, IsWholeUpTo-cut, is_text_front-from_error}
 use Rattle.utf8_stream.proofs.front.whole_len.Goals as goal
 
 pub returns-in-Ok : goal.returns-in-Ok

@@ -1,10 +1,4 @@
-use Rattle.std.proofs.Common.{◌≡◌, ℕ, List, ◌++◌, take, false, flat_map, true, refl, sym, ap, ◌∙◌}
-use Rattle.wire_meaning.specs.Text.{is_text_front}
-use Rattle.utf8_stream.specs.Stream.{is_front}
-use Rattle.utf8_stream.specs.declared.stream.Text.{Text}
-use Rattle.utf8_stream.specs.declared.stream.Text.TheVariants.{Front, Bad}
-use Rattle.utf8_stream.specs.contracts.stream.Text.{the_type}
-use Rattle.utf8_stream.proofs.StreamLemmas.{is_utf8-pieces}
+use Rattle.utf8_stream.proofs.All.{◌≡◌, ℕ, List, ◌++◌, take, false, flat_map, true, refl, sym, ap, ◌∙◌, is_text_front, is_front, Text, Front, Bad, the_type, is_utf8-pieces}
 use Rattle.utf8_stream.proofs.stream.are_utf8.Goals as goal
 use denote.Enum.Bare.{sameb}
 

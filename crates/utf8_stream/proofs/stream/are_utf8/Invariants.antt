@@ -1,5 +1,4 @@
-use Rattle.std.proofs.Common.{take, flat_map}
-use Rattle.utf8_stream.specs.Stream.{Follows}
+use Rattle.utf8_stream.proofs.Below.{take, flat_map, Follows}
 use Rattle.utf8_stream.proofs.stream.are_utf8.Given as goal
 
 abbrev pub invariant-pieces : goal.invariant-pieces

@@ -1,9 +1,4 @@
-use Rattle.std.proofs.Common.{ℕ, ◌-◌, List, length, take, sym, ap, subst, ◌∙◌, arith}
-use Rattle.std.proofs.lemmas.List.{take_rest}
-use Rattle.wire_meaning.specs.Text.{is_text_front}
-use Rattle.utf8_stream.specs.Unfinished.{IsWholeUpTo, carried_octets}
-use Rattle.utf8_stream.specs.Stream.{Follows}
-use Rattle.utf8_stream.proofs.StreamLemmas.{Follows-behind, Follows-malformed, carried_lt, joined_text}
+use Rattle.utf8_stream.proofs.All.{ℕ, ◌-◌, List, length, take, sym, ap, subst, ◌∙◌, arith, take_rest, is_text_front, IsWholeUpTo, carried_octets, Follows, Follows-behind, Follows-malformed, carried_lt, joined_text}
 use Rattle.utf8_stream.proofs.stream.carried_after.Goals as goal
 
 pub returns-in_err-whole-clause-follows : goal.returns-in_err-whole-clause-follows

@@ -1,8 +1,4 @@
-use Rattle.std.proofs.Common.{ℕ, List, Some, sym, subst, ◌∙◌}
-use Rattle.std.proofs.lemmas.List.{take_rest}
-use Rattle.utf8_stream.specs.Unfinished.{IsUnfinished}
-use Rattle.utf8_stream.specs.Stream.{Follows}
-use Rattle.utf8_stream.proofs.StreamLemmas.{Follows-None, Follows-Some}
+use Rattle.utf8_stream.proofs.All.{ℕ, List, Some, sym, subst, ◌∙◌, take_rest, IsUnfinished, Follows, Follows-None, Follows-Some}
 use Rattle.utf8_stream.proofs.stream.carried_of.Goals as goal
 
 pub returns-in_err-whole : goal.returns-in_err-whole

@@ -1,6 +1,4 @@
-use Rattle.std.proofs.Common.{None}
-use Rattle.wire_meaning.specs.Event.{message, ping, pong, closed, failed}
-use Rattle.wire_meaning.proofs.BoundLemmas.{reads_told_at}
+use Rattle.wire_meaning.proofs.All.{None, message, ping, pong, closed, failed, reads_told_at}
 use Rattle.wire_meaning.proofs.laws.event_bounds.Goals as goal
 
 pub returns : goal.returns

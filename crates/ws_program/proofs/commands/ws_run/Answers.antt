@@ -1,8 +1,4 @@
-use Rattle.std.proofs.Common.{rules, ◌≡◌, inl, inr, Option, Some, refl, subst}
-use Rattle.ws_program.specs.declared.words.Command.{Command}
-use Rattle.ws_program.specs.declared.words.Command.TheVariants.{Echo, Replay}
-use Rattle.ws_program.specs.Words.{IsEcho, IsReplay, Names}
-use Rattle.ws_program.proofs.WordLemmas.{not_both}
+use Rattle.ws_program.proofs.All.{rules, ◌≡◌, inl, inr, Option, Some, refl, subst, Command, Echo, Replay, IsEcho, IsReplay, Names, not_both}
 use Rattle.ws_program.proofs.commands.ws_run.Goals as goal
 
 pub returns-in-Some-Echo-clause-replay : goal.returns-in-Some-Echo-clause-replay

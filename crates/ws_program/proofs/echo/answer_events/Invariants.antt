@@ -1,9 +1,4 @@
-use Rattle.std.proofs.Common.{◌≡◌, List, [], length}
-use Rattle.link_trait.specs.Link.{TellsAlike}
-use Rattle.wire_meaning.specs.Event.{Event}
-use Rattle.frame_reader.specs.Reader.{ahead}
-use Rattle.wire_meaning.specs.Bounds.{AreShort}
-use Rattle.ws_program.specs.Answers.{Answers, GoesOn}
+use Rattle.ws_program.proofs.Below.{◌≡◌, List, [], length, TellsAlike, Event, ahead, AreShort, Answers, GoesOn}
 use Rattle.ws_program.proofs.echo.answer_events.Given as goal
 
 abbrev pub invariant-events : goal.invariant-events

@@ -1,10 +1,5 @@
-use Rattle.std.proofs.Common.{◌≡◌, [], ◌++◌, drop, take, length, refl, rules, arith, length-append, length-drop, length-take, ◌∙◌}
-use Rattle.std.proofs.KnownBytes.{Consumes-nil, Consumes-trans}
-use Rattle.schedule_text.specs.declared.fault.Fault.TheVariants.{TooLong}
-use Rattle.link_trait.proofs.Pieces.{TellsAlike-trans}
-use Rattle.ws_program.specs.declared.status.Status.TheVariants.{Refused}
-use Rattle.ws_program.proofs.PassLemmas.{tells_alike_same}
-use Rattle.ws_program.proofs.EchoLemmas.{stands_first, stands_short, stands_then, echo_then, done_closed, front_written, no_further, nothing_further, Piece, piece_read, echo_start, past_too_long, past_no_further, unmoved_no_further}
+use Rattle.ws_program.proofs.All.{◌≡◌, [], ◌++◌, drop, take, length, refl, rules, arith, length-drop, length-take, ◌∙◌, Consumes-nil, Consumes-trans, TooLong, TellsAlike-trans, Refused, tells_alike_same, stands_first, stands_short, stands_then, echo_then, done_closed, front_written, no_further, nothing_further, Piece, piece_read, echo_start, past_too_long, past_no_further, unmoved_no_further}
+use Rattle.std.proofs.Common.{length-append}
 use Rattle.ws_program.proofs.echo.echo_run.Goals as goal
 
 pub reads-init : goal.reads-init

@@ -1,7 +1,4 @@
-use Rattle.std.proofs.Common.{◌≡◌, ◌+◌, ℕ, List, [], length}
-use Rattle.std.specs.Io.KnownBytes.{Appends, Consumes}
-use Rattle.link_trait.specs.Link.{TellsAlike}
-use Rattle.wire_meaning.specs.Answer.{echoed}
+use Rattle.ws_program.proofs.Below.{◌≡◌, ◌+◌, ℕ, List, [], length, Appends, Consumes, TellsAlike, echoed}
 use Rattle.ws_program.proofs.EchoLemmas.{Stands}
 use Rattle.ws_program.proofs.echo.echo_run.Given as goal
 

@@ -1,6 +1,4 @@
-use Rattle.std.proofs.Common.{◌≡◌, ◌≤◌, ◌-◌, length}
-use Rattle.std.specs.Io.KnownBytes.{Consumes}
-use Rattle.link_trait.specs.Link.{TellsAlike}
+use Rattle.ws_program.proofs.Below.{◌≡◌, ◌≤◌, ◌-◌, length, Consumes, TellsAlike}
 use Rattle.ws_program.proofs.replay.read_all.Given as goal
 
 abbrev pub invariant-reads : goal.invariant-reads

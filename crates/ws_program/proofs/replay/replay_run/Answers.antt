@@ -1,11 +1,4 @@
-use Rattle.std.proofs.Common.{ℕ, List, Option, Some, ◌≡◌, sym, subst}
-use Rattle.std.specs.Io.KnownBytes.{Consumes}
-use Rattle.link_trait.specs.declared.act.Act.{Act}
-use Rattle.schedule_text.specs.Reading.{IsText, IsRefused}
-use Rattle.schedule_text.specs.declared.fault.Fault.{Fault}
-use Rattle.ws_program.specs.Replay.{AnswersText, IsTaken, RefusesAs}
-use Rattle.ws_program.specs.Streams.{streams}
-use Rattle.ws_program.proofs.ReplayLemmas.{text_of_all, fault_of_all, text_ends}
+use Rattle.ws_program.proofs.All.{ℕ, List, Option, Some, ◌≡◌, sym, subst, Consumes, Act, IsText, IsRefused, Fault, AnswersText, IsTaken, RefusesAs, streams, text_of_all, fault_of_all, text_ends}
 use Rattle.ws_program.proofs.replay.replay_run.Goals as goal
 
 pub returns-in-Ok : goal.returns-in-Ok

@@ -1,7 +1,4 @@
-use Rattle.mem_net.specs.MemNet.{net_state}
-use Rattle.schedule_text.specs.Report.{report}
-use Rattle.run_kept.specs.Ends.{backlog_at}
-use Rattle.ws_program.specs.Replayed.{links_of}
+use Rattle.ws_program.proofs.All.{net_state, report, backlog_at, links_of}
 use Rattle.ws_program.proofs.replay.replay_schedule.Goals as goal
 
 pub returns-then-report : goal.returns-then-report

@@ -1,13 +1,4 @@
-use Rattle.std.proofs.Common.{◌≡◌, ◌+◌, ◌∙◌, ℕ, List, [], ap, subst, arith}
-use Rattle.std.specs.List.{count_by}
-use Rattle.link_trait.specs.declared.act.Act.{Act}
-use Rattle.mem_net.specs.MemNet.{net_state}
-use Rattle.ws_kinds.specs.Recorder.{told_by}
-use Rattle.route_table.specs.Table.{RouteTable}
-use Rattle.hub_lines.specs.State.{server}
-use Rattle.loop_runner.specs.Keeps.{IsRight, IsSettled}
-use Rattle.ws_program.specs.Replayed.{is_turn_act}
-use Rattle.ws_program.proofs.RunLemmas.{echo_beginning, no_views, never_spent, never_failed, few_passed, has_run, kept_first, views_at_first, there_at_first}
+use Rattle.ws_program.proofs.All.{◌≡◌, ◌+◌, ◌∙◌, ℕ, List, [], ap, subst, arith, count_by, Act, net_state, told_by, RouteTable, server, IsRight, IsSettled, IsLivedThroughout, lived_first, is_turn_act, echo_beginning, no_views, never_spent, never_failed, few_passed, has_run, kept_first, views_at_first, there_at_first}
 use Rattle.ws_program.proofs.replay.run_schedule.Goals as goal
 
 pub unreachable-requires : goal.unreachable-requires
@@ -38,3 +29,6 @@ returns c =
     c.run-ran.ensures.ready.settled (c.is_whole.ensures.watch c.if-not-is_whole.false) (c.is_whole.ensures.net c.if-not-is_whole.false) c.is_whole.ensures.few (c.run-ran.ensures.last (omega arith))
     (subst (λ (t : RouteTable). IsRight (echo_beginning f t) (server hub (net_state net) (told_by watch)) (tt {0})) c.in_ok-routes.ensures (c.run-ran.ensures.right (tt {0}) f no_views few are kept))
     (subst (λ (t : RouteTable). IsSettled (echo_beginning f t) (server hub (net_state net) (told_by watch))) c.in_ok-routes.ensures (c.run-ran.ensures.settled (omega arith) (tt {0}) f no_views few are kept there))
+    (subst (λ (t : RouteTable). IsLivedThroughout (echo_beginning f t) (server hub (net_state net) (told_by watch))) c.in_ok-routes.ensures
+    (c.run-ran.ensures.throughout (tt {0}) f no_views few are kept (lived_first (echo_beginning f c.in_ok-routes.routes) (server c.in_ok-hub.hub (net_state start) (told_by c.new-watch.result)) (ap told_by c.new-watch.ensures))))
+    c.is_whole.ensures.notes c.links_in_range.ensures

@@ -1,7 +1,4 @@
-use Rattle.std.proofs.Common.{rules, ◌≡◌, Some, length, refl, sym, ap, ◌∙◌, List, ℕ}
-use Rattle.ws_kinds.specs.declared.note.Phase.TheVariants.{Head, Open, Leaving, Ending, Gone}
-use Rattle.hub_lines.specs.State.{phase_at}
-use Rattle.ws_program.proofs.ReportLemmas.{held_none, held_gone, held_there}
+use Rattle.ws_program.proofs.All.{rules, ◌≡◌, Some, length, refl, sym, ap, ◌∙◌, List, ℕ, Head, Open, Leaving, Ending, Gone, phase_at, held_none, held_gone, held_there}
 use Rattle.ws_program.proofs.report.held_of.Goals as goal
 
 pub returns-in-None : goal.returns-in-None

@@ -1,8 +1,4 @@
-use Rattle.std.proofs.Common.{sym}
-use Rattle.ws_kinds.specs.NoteValue.{note_value}
-use Rattle.mem_net.specs.MemNet.{net_state}
-use Rattle.run_kept.specs.Ends.{backlog_at}
-use Rattle.ws_program.proofs.ReportLemmas.{links_grow, links_fail}
+use Rattle.ws_program.proofs.All.{sym, note_value, net_state, backlog_at, links_grow, links_fail}
 use Rattle.ws_program.proofs.report.report_links.Goals as goal
 
 pub returns-then-not-report_accepted : goal.returns-then-not-report_accepted

@@ -1,8 +1,4 @@
-use Rattle.std.specs.Prelude.{take, true}
-use Rattle.mem_net.specs.MemNet.{net_state}
-use Rattle.schedule_text.specs.Output.{WritesText}
-use Rattle.run_kept.specs.Ends.{backlog_at}
-use Rattle.ws_program.specs.Replayed.{links_of, all_link_lines}
+use Rattle.ws_program.proofs.Below.{take, true, net_state, WritesText, backlog_at, links_of, all_link_lines}
 use Rattle.ws_program.proofs.report.report_links.Given as goal
 
 abbrev pub invariant-notes : goal.invariant-notes

@@ -1,7 +1,4 @@
-use Rattle.std.proofs.Common.{sym}
-use Rattle.ws_kinds.specs.NoteValue.{note_value}
-use Rattle.schedule_text.specs.Report.{note_line}
-use Rattle.ws_program.proofs.ReportLemmas.{text_grows, text_fails}
+use Rattle.ws_program.proofs.All.{sym, note_value, note_line, text_grows, text_fails}
 use Rattle.ws_program.proofs.report.report_notes.Goals as goal
 
 pub returns-then-not-report_note : goal.returns-then-not-report_note

@@ -1,7 +1,4 @@
-use Rattle.std.specs.Prelude.{take, true}
-use Rattle.std.specs.List.{flat_map}
-use Rattle.schedule_text.specs.Output.{WritesText}
-use Rattle.schedule_text.specs.Report.{note_line}
+use Rattle.ws_program.proofs.Below.{take, true, flat_map, WritesText, note_line}
 use Rattle.ws_program.proofs.report.report_notes.Given as goal
 
 abbrev pub invariant-notes : goal.invariant-notes

@@ -1,6 +1,4 @@
-use Rattle.std.proofs.Common.{[], ◌≡◌}
-use Rattle.frame_reader.specs.Reader.{has_ended}
-use Rattle.frame_reader.specs.Parsed.{Tells, Keeps, burden}
+use Rattle.frame_reader.proofs.Below.{[], ◌≡◌, has_ended, Tells, Keeps, burden}
 use Rattle.frame_reader.proofs.reader.Reader.advance.Given as goal
 
 abbrev pub invariant-parts : goal.invariant-parts

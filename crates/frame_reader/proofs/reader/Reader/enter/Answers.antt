@@ -1,7 +1,4 @@
-use Rattle.std.proofs.Common.{◌≡◌, ◌++◌, ◌+◌, ◌∙◌, ap, arith, refl, length-drop}
-use Rattle.frame_reader.specs.Reader.{raw_of}
-use Rattle.frame_reader.specs.State.{weight}
-use Rattle.frame_reader.proofs.EnterLemmas.{coming_at_start, enters}
+use Rattle.frame_reader.proofs.All.{◌≡◌, ◌++◌, ◌+◌, ◌∙◌, ap, arith, refl, length-drop, raw_of, weight, coming_at_start, enters}
 use Rattle.frame_reader.proofs.reader.Reader.enter.Goals as goal
 
 pub returns-clause-parsed : goal.returns-clause-parsed

@@ -1,11 +1,4 @@
-use Rattle.std.proofs.Common.{◌≤◌, ◌++◌, ◌+◌, ◌-◌, ◌∙◌, [], ◌∷◌, sym, ap, arith, refl, length, List, ℕ, subst, take, drop, length-drop}
-use Rattle.wire_meaning.specs.Event.{Event, ping, pong}
-use Rattle.frame_reader.specs.Parsed.{last}
-use Rattle.frame_reader.specs.Close.{CloseIs}
-use Rattle.frame_reader.specs.Reader.{raw_of, is_end}
-use Rattle.frame_reader.specs.State.{begun_of}
-use Rattle.frame_reader.proofs.EnterLemmas.{coming_at_start}
-use Rattle.frame_reader.proofs.ControlLemmas.{payload_awaited, unmasked_part, pings, pongs, closes, close_event}
+use Rattle.frame_reader.proofs.All.{◌≤◌, ◌++◌, ◌+◌, ◌-◌, ◌∙◌, [], ◌∷◌, sym, ap, arith, refl, length, List, ℕ, subst, take, drop, length-drop, Event, ping, pong, last, CloseIs, raw_of, is_end, begun_of, coming_at_start, payload_awaited, unmasked_part, pings, pongs, closes, close_event}
 use Rattle.frame_reader.proofs.reader.Reader.parse_control_frame.Goals as goal
 
 pub returns-then-len-to-clause-parsed : goal.returns-then-len-to-clause-parsed

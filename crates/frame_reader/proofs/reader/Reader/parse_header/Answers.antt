@@ -1,9 +1,4 @@
-use Rattle.std.proofs.Common.{◌≤◌, ◌++◌, ◌∙◌, [], ap, subst, arith, refl, length, List, ℕ}
-use Rattle.wire_meaning.specs.Event.{failed}
-use Rattle.wire_meaning.specs.Reading.{more, ends}
-use Rattle.frame_reader.specs.Reader.{raw_of, is_end}
-use Rattle.frame_reader.specs.State.{begun_of}
-use Rattle.frame_reader.proofs.EnterLemmas.{coming_at_start, refused_at, awaited_at, same_front_at}
+use Rattle.frame_reader.proofs.All.{◌≤◌, ◌++◌, ◌∙◌, [], ap, subst, arith, refl, length, List, ℕ, failed, more, ends, raw_of, is_end, begun_of, coming_at_start, refused_at, awaited_at, same_front_at}
 use Rattle.frame_reader.proofs.reader.Reader.parse_header.Goals as goal
 
 pub returns-in-More-clause-parsed : goal.returns-in-More-clause-parsed

@@ -1,9 +1,4 @@
-use Rattle.std.proofs.Common.{◌++◌, ◌∙◌, ap, arith, refl}
-use Rattle.std.specs.Prelude.{not}
-use Rattle.utf8_stream.specs.Stream.{is_front}
-use Rattle.frame_reader.specs.State.{middle_of}
-use Rattle.frame_reader.specs.Reader.{raw_of}
-use Rattle.frame_reader.proofs.StepLemmas.{coming_in_frame, text_fails}
+use Rattle.frame_reader.proofs.All.{◌++◌, ◌∙◌, ap, arith, refl, not, is_front, middle_of, raw_of, coming_in_frame, text_fails}
 use Rattle.frame_reader.proofs.reader.Reader.parse_payload.Goals as goal
 
 pub returns-in-Bad-clause-parsed : goal.returns-in-Bad-clause-parsed

@@ -1,10 +1,4 @@
-use Rattle.std.proofs.Common.{◌≡◌, ◌+◌, ◌-◌, ◌++◌, ℕ, List, ap, sym, ◌∙◌, arith, take, drop, length-drop}
-use Rattle.wire_meaning.specs.Mask.{unmasked}
-use Rattle.wire_meaning.specs.Reading.{events_from, reads}
-use Rattle.frame_reader.specs.State.{is_text_open, middle_of, coming}
-use Rattle.frame_reader.specs.Middle.{middle_front}
-use Rattle.frame_reader.proofs.MiddleLemmas.{took, middle_at}
-use Rattle.frame_reader.proofs.StepLemmas.{held_and_rest, text_test}
+use Rattle.frame_reader.proofs.All.{◌≡◌, ◌+◌, ◌-◌, ◌++◌, ℕ, List, ap, sym, ◌∙◌, arith, take, drop, length-drop, unmasked, events_from, reads, is_text_open, middle_of, coming, middle_front, took, middle_at, held_and_rest, text_test}
 use Rattle.frame_reader.proofs.reader.Reader.take_payload.Goals as goal
 
 pub returns-clause-tells : goal.returns-clause-tells

@@ -1,14 +1,4 @@
-use Rattle.std.proofs.Common.{◌≡◌, ◌<◌, ◌++◌, ◌∷◌, [], ℕ, length, rules, refl, sym, subst}
-use Rattle.ws_kinds.specs.NoteValue.{accepted, busy, no_room}
-use Rattle.hub_lines.specs.State.{HubState, server, new_entry}
-use Rattle.hub_lines.specs.Calls.{Ties, nothing}
-use Rattle.hub_notes.specs.Calls.{Appends}
-use Rattle.hub_notes.specs.Quiet.{CountsBy}
-use Rattle.hub_notes.specs.Table.{TableState}
-use Rattle.hub_core.specs.State.{hub_of}
-use Rattle.hub_notes.specs.declared.arrival.Arrival.TheVariants.{Taken, Memory}
-use Rattle.hub_notes.specs.Answers.{Arrives}
-use Rattle.hub_core.proofs.CallLemmas.{plain_next, arrives_taken, appends_accepted, ties_accepted, counts_accepted, makes_none, of_other, appends_quiet}
+use Rattle.hub_core.proofs.All.{◌≡◌, ◌<◌, ◌++◌, ◌∷◌, [], ℕ, length, rules, refl, sym, subst, accepted, busy, no_room, HubState, server, new_entry, Ties, nothing, Appends, CountsBy, TableState, hub_of, Taken, Memory, Arrives, plain_next, arrives_taken, appends_accepted, ties_accepted, counts_accepted, makes_none, appends_quiet, of_other}
 use Rattle.hub_core.proofs.hub.Hub.accept.Goals as goal
 
 pub returns-then-is_full-clause-appends : goal.returns-then-is_full-clause-appends

@@ -1,10 +1,4 @@
-use Rattle.std.proofs.Common.{◌≡◌, ◌≢◌, ◌<◌, ◌≤◌, ℕ, [], refl, sym, ap, ◌∙◌, subst}
-use Rattle.ws_kinds.specs.declared.note.Phase.TheVariants.{Ending}
-use Rattle.run_meaning.specs.Tell.{nothing_told}
-use Rattle.hub_lines.specs.State.{HubState, server, entry_at, ring_at}
-use Rattle.hub_notes.specs.Tells.{tell_at}
-use Rattle.hub_notes.specs.Table.{IsTable, table_of}
-use Rattle.hub_core.proofs.TurnLemmas.{none_at_zero, finishing_step, finishing_ends, appends_finished, none_told, is_known}
+use Rattle.hub_core.proofs.All.{◌≡◌, ◌≢◌, ◌<◌, ◌≤◌, ℕ, [], refl, sym, ap, ◌∙◌, subst, Ending, nothing_told, HubState, server, entry_at, ring_at, tell_at, IsTable, table_of, none_at_zero, finishing_step, finishing_ends, appends_finished, none_told, is_known}
 use Rattle.hub_core.proofs.hub.Hub.end_turn.Goals as goal
 
 pub walk-init : goal.walk-init

@@ -1,6 +1,4 @@
-use Rattle.std.proofs.Common.{◌≡◌, ◌-◌}
-use Rattle.hub_lines.specs.State.{server}
-use Rattle.hub_lines.specs.Calls.{Ties}
+use Rattle.hub_core.proofs.Below.{◌≡◌, ◌-◌, server, Ties}
 use Rattle.hub_core.proofs.TurnLemmas.{Finishing}
 use Rattle.hub_core.proofs.hub.Hub.end_turn.Given as goal
 

@@ -1,5 +1,4 @@
-use Rattle.std.proofs.Common.{refl}
-use Rattle.hub_core.proofs.LeaveLemmas.{goes_notes}
+use Rattle.hub_core.proofs.All.{refl, goes_notes}
 use Rattle.hub_core.proofs.hub.Hub.ended.Goals as goal
 
 pub returns : goal.returns

@@ -1,6 +1,4 @@
-use Rattle.std.proofs.Common.{rules}
-use Rattle.hub_lines.specs.State.{server}
-use Rattle.hub_core.proofs.TurnLemmas.{finishes_empty, passes_over}
+use Rattle.hub_core.proofs.All.{rules, server, finishes_empty, passes_over}
 use Rattle.hub_core.proofs.hub.Hub.finish.Goals as goal
 
 pub returns-then-held-eq0-clause-finishes : goal.returns-then-held-eq0-clause-finishes

@@ -1,9 +1,4 @@
-use Rattle.std.proofs.Common.{◌≡◌, ℕ, rules, refl, ap}
-use Rattle.ws_kinds.specs.NoteValue.{given}
-use Rattle.run_meaning.specs.Quiet.{new_count}
-use Rattle.hub_notes.specs.Quiet.{count_of, counts_at}
-use Rattle.hub_notes.specs.Table.{IsTable, table_of}
-use Rattle.hub_core.proofs.CallLemmas.{notes_alone, notes_given, counts_given}
+use Rattle.hub_core.proofs.All.{◌≡◌, ℕ, rules, refl, ap, given, new_count, count_of, counts_at, IsTable, table_of, notes_alone, notes_given, counts_given}
 use Rattle.hub_core.proofs.hub.Hub.given.Goals as goal
 
 pub returns : goal.returns

@@ -1,11 +1,4 @@
-use Rattle.std.proofs.Common.{◌≡◌, ◌++◌, [], ℕ, List, Some, false, not, refl, ap, ◌∙◌}
-use Rattle.ws_kinds.specs.declared.note.Phase.TheVariants.{Gone}
-use Rattle.hub_lines.specs.State.{HubState, server, entry_of, is_gone}
-use Rattle.hub_core.specs.Changes.{Leaves}
-use Rattle.hub_core.specs.State.{hub_of}
-use Rattle.hub_core.proofs.StateLemmas.{plain_change}
-use Rattle.hub_core.proofs.NoteLemmas.{falsely}
-use Rattle.hub_core.proofs.LeaveLemmas.{goes, no_topics}
+use Rattle.hub_core.proofs.All.{◌≡◌, ◌++◌, [], ℕ, List, Some, false, not, refl, ap, ◌∙◌, Gone, HubState, server, entry_of, is_gone, Leaves, hub_of, plain_change, falsely, goes, no_topics}
 use Rattle.hub_core.proofs.hub.Hub.leave.Goals as goal
 
 pub returns : goal.returns

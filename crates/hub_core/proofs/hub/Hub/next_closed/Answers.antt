@@ -1,6 +1,4 @@
-use Rattle.std.specs.Option.{option_map}
-use Rattle.hub_core.specs.Parting.{parting_value}
-use Rattle.hub_core.proofs.CallLemmas.{appends_taken, ties_taken}
+use Rattle.hub_core.proofs.All.{option_map, parting_value, appends_taken, ties_taken}
 use Rattle.hub_core.proofs.hub.Hub.next_closed.Goals as goal
 
 pub returns-clause-appends : goal.returns-clause-appends

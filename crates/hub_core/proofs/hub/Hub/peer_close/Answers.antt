@@ -1,10 +1,4 @@
-use Rattle.std.proofs.Common.{◌≡◌, true, false, rules, refl}
-use Rattle.ws_kinds.specs.NoteValue.{peer_close}
-use Rattle.wire_meaning.specs.Answer.{close_item}
-use Rattle.run_meaning.specs.Lines.{is_open}
-use Rattle.hub_lines.specs.State.{phase_at}
-use Rattle.hub_lines.specs.Calls.{only}
-use Rattle.hub_core.proofs.CallLemmas.{notices_ends, end_close, sends_noted, sends_nothing, sends_served, sends_unserved, of_here, of_other}
+use Rattle.hub_core.proofs.All.{◌≡◌, true, false, rules, refl, peer_close, close_item, is_open, phase_at, only, notices_ends, end_close, sends_noted, sends_nothing, sends_served, sends_unserved, of_here, of_other}
 use Rattle.hub_core.proofs.hub.Hub.peer_close.Goals as goal
 
 pub returns-then-was_open : goal.returns-then-was_open

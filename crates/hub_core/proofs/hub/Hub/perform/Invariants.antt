@@ -1,10 +1,4 @@
-use Rattle.std.proofs.Common.{◌≡◌, take}
-use Rattle.ws_kinds.specs.OrderValue.{order_values}
-use Rattle.run_meaning.specs.Server.{every_topic}
-use Rattle.hub_lines.specs.State.{server}
-use Rattle.hub_lines.specs.Calls.{Ties}
-use Rattle.hub_notes.specs.Table.{IsTable, table_of}
-use Rattle.hub_notes.specs.Serving.{ServesAll}
+use Rattle.hub_core.proofs.Below.{◌≡◌, take, order_values, every_topic, server, Ties, IsTable, table_of, ServesAll}
 use Rattle.hub_core.proofs.hub.Hub.perform.Given as goal
 
 abbrev pub invariant-walk : goal.invariant-walk

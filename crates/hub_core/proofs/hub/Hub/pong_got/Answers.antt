@@ -1,6 +1,4 @@
-use Rattle.std.proofs.Common.{rules, refl}
-use Rattle.ws_kinds.specs.NoteValue.{pong_got}
-use Rattle.hub_core.proofs.CallLemmas.{notes_alone, notes_open, of_other}
+use Rattle.hub_core.proofs.All.{rules, refl, pong_got, notes_alone, notes_open, of_other}
 use Rattle.hub_core.proofs.hub.Hub.pong_got.Goals as goal
 
 pub returns : goal.returns

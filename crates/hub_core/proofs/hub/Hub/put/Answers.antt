@@ -1,11 +1,4 @@
-use Rattle.std.proofs.Common.{◌≡◌, ◌≢◌, false, rules, subst}
-use Rattle.hub_lines.specs.State.{Server, server, entry_at, is_gone}
-use Rattle.socket_core.specs.declared.socket.Kept.{Kept}
-use Rattle.socket_core.specs.declared.socket.Kept.TheVariants.{Failed}
-use Rattle.hub_core.specs.Changes.{PutsItem}
-use Rattle.hub_core.proofs.NoteLemmas.{falsely}
-use Rattle.hub_core.proofs.PutLemmas.{put_proceeds, put_appends, put_elsewhere, put_ties, put_tells}
-use Rattle.hub_core.proofs.FailLemmas.{fail_proceeds, fail_appends, fail_elsewhere, fail_ties}
+use Rattle.hub_core.proofs.All.{◌≡◌, ◌≢◌, false, rules, subst, Server, server, entry_at, is_gone, Kept, Failed, PutsItem, falsely, put_proceeds, put_appends, put_elsewhere, put_ties, put_tells, fail_proceeds, fail_appends, fail_elsewhere, fail_ties}
 use Rattle.hub_core.proofs.hub.Hub.put.Goals as goal
 
 pub returns : goal.returns

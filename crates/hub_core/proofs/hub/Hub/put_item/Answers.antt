@@ -1,9 +1,4 @@
-use Rattle.std.proofs.Common.{refl}
-use Rattle.hub_lines.specs.State.{server, entry_of}
-use Rattle.hub_core.specs.Changes.{PutsItem}
-use Rattle.hub_core.specs.State.{hub_of}
-use Rattle.hub_core.proofs.StateLemmas.{plain_change}
-use Rattle.hub_core.proofs.PutLemmas.{told_put}
+use Rattle.hub_core.proofs.All.{refl, server, entry_of, PutsItem, hub_of, plain_change, told_put}
 use Rattle.hub_core.proofs.hub.Hub.put_item.Goals as goal
 
 pub returns : goal.returns

@@ -1,9 +1,4 @@
-use Rattle.std.proofs.Common.{refl, ap, ◌∙◌}
-use Rattle.ws_kinds.specs.declared.note.Phase.TheVariants.{Ending}
-use Rattle.ws_kinds.specs.NoteValue.{head}
-use Rattle.wire_meaning.specs.Answer.{reply as replied}
-use Rattle.hub_lines.specs.State.{HubState, phase_at}
-use Rattle.hub_core.proofs.CallLemmas.{head_notices, sends_noted, sends_put, of_here, of_other}
+use Rattle.hub_core.proofs.All.{refl, ap, ◌∙◌, Ending, head, replied, HubState, phase_at, head_notices, sends_noted, sends_put, of_here, of_other}
 use Rattle.hub_core.proofs.hub.Hub.refuse.Goals as goal
 
 pub returns : goal.returns

@@ -1,8 +1,4 @@
-use Rattle.std.proofs.Common.{rules, refl, sym}
-use Rattle.wire_meaning.specs.declared.frame.Opcode.TheVariants.{Begins}
-use Rattle.wire_meaning.specs.Answer.{whole}
-use Rattle.hub_notes.proofs.CallLemmas.{proceeds_same}
-use Rattle.hub_core.proofs.CallLemmas.{message_is_sent}
+use Rattle.hub_core.proofs.All.{rules, refl, sym, Begins, whole, proceeds_same, message_is_sent}
 use Rattle.hub_core.proofs.hub.Hub.send.Goals as goal
 
 pub returns-in-Some : goal.returns-in-Some
@@ -26,7 +22,7 @@ returns-in-None g c = record {
   refused = search rules;
   kept = c.put.ensures.kept;
   proceeds = c.put.ensures.proceeds;
-  appends = c.put.ensures.appends (whole (Begins c.args.kind) c.args.body.now) (message_is_sent c.args.kind c.opcode_of.result c.opcode_of.ensures, (Begins c.args.kind, sym c.opcode_of.ensures, refl));
+  appends = c.put.ensures.appends (whole (Begins c.args.kind) c.args.body.now) (message_is_sent c.args.kind c.opcode_number.result c.opcode_number.ensures.value, (Begins c.args.kind, sym c.opcode_number.ensures.value, refl));
   elsewhere = c.put.ensures.elsewhere;
   named = c.put.ensures.named;
   config = c.put.ensures.config;

@@ -1,6 +1,4 @@
-use Rattle.std.proofs.Common.{refl}
-use Rattle.hub_lines.specs.State.{server}
-use Rattle.hub_core.proofs.OrderLemmas.{TopicsEnd, serves_refused, serves_sent}
+use Rattle.hub_core.proofs.All.{refl, server, serves_refused, serves_sent, TopicsEnd}
 use Rattle.hub_core.proofs.hub.Hub.serve_send.Goals as goal
 
 pub returns-in-Err-clause-serves : goal.returns-in-Err-clause-serves

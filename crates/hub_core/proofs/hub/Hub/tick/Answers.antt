@@ -1,8 +1,4 @@
-use Rattle.std.proofs.Common.{refl}
-use Rattle.ws_kinds.specs.NoteValue.{tick}
-use Rattle.hub_lines.specs.State.{server}
-use Rattle.hub_core.proofs.NoteLemmas.{Notices, notices_none}
-use Rattle.hub_core.proofs.CallLemmas.{notes_nobody}
+use Rattle.hub_core.proofs.All.{refl, tick, server, Notices, notices_none, notes_nobody}
 use Rattle.hub_core.proofs.hub.Hub.tick.Given as given
 use Rattle.hub_core.proofs.hub.Hub.tick.Goals as goal
 

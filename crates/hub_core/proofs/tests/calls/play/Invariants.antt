@@ -1,5 +1,4 @@
-use Rattle.hub_lines.specs.Calls.{Ties}
-use Rattle.hub_core.specs.At.{at}
+use Rattle.hub_core.proofs.Below.{Ties, at}
 use Rattle.hub_core.proofs.tests.calls.play.Given as goal
 
 abbrev pub invariant-walk : goal.invariant-walk

@@ -1,8 +1,4 @@
-use Rattle.std.proofs.Common.{is_ok}
-use Rattle.wire_meaning.specs.declared.frame.Opcode.TheVariants.{Begins}
-use Rattle.wire_meaning.specs.Answer.{whole}
-use Rattle.hub_lines.specs.Calls.{only, served}
-use Rattle.hub_lines.proofs.CallLemmas.{kept_by_one, carried_after}
+use Rattle.hub_core.proofs.All.{is_ok, Begins, whole, only, served, kept_by_one, carried_after}
 use Rattle.hub_core.proofs.tests.senders.send_and_lose.Goals as goal
 
 pub returns-clause-carried : goal.returns-clause-carried

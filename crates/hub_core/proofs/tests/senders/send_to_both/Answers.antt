@@ -1,10 +1,4 @@
-use Rattle.std.proofs.Common.{◌≡◌, ℕ, Bool, List, is_ok, sym, subst}
-use Rattle.wire_meaning.specs.declared.frame.Opcode.TheVariants.{Begins}
-use Rattle.wire_meaning.specs.Answer.{Item, whole}
-use Rattle.hub_lines.specs.State.{Server}
-use Rattle.hub_lines.specs.Calls.{only, served, nothing, then_also}
-use Rattle.hub_notes.specs.Calls.{Appends}
-use Rattle.hub_notes.proofs.FrontLemmas.{appends_then, appends_before_nothing}
+use Rattle.hub_core.proofs.All.{◌≡◌, ℕ, Bool, List, is_ok, sym, subst, Begins, Item, whole, Server, only, served, nothing, then_also, Appends, appends_then, appends_before_nothing}
 use Rattle.hub_core.proofs.tests.senders.send_to_both.Goals as goal
 
 appended_by_both : (p q r s : Bool) (f g : ℕ → List Item) {s0 s1 s2 s3 : Server} → p ≡ r → q ≡ s → Appends (served r f) s0 s1 → Appends (served s g) s1 s2 → Appends nothing s2 s3

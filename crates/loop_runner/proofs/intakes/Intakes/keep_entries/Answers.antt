@@ -1,13 +1,4 @@
-use Rattle.std.proofs.Common.{◌≡◌, ◌∙◌, ℕ, Bool, sym, ap, rules}
-use Rattle.std.specs.List.{filter}
-use Rattle.std.specs.Ordering.{nat_cmp}
-use Rattle.std.specs.Map.{lookup}
-use Rattle.std.specs.BTreeMap.{is_at}
-use Rattle.std.proofs.lemmas.Map.Entries.{lookup-filter-keys}
-use Rattle.std.proofs.lemmas.Map.Made.{filter_same_pairs}
-use Rattle.hub_lines.specs.State.{has_entry}
-use Rattle.loop_runner.specs.declared.intakes.Intake.{Intake}
-use Rattle.loop_runner.proofs.IntakeLemmas.{at_key}
+use Rattle.loop_runner.proofs.All.{◌≡◌, ◌∙◌, ℕ, Bool, sym, ap, rules, filter, nat_cmp, lookup, is_at, lookup-filter-keys, filter_same_pairs, has_entry, Intake, at_key}
 use Rattle.loop_runner.proofs.intakes.Intakes.keep_entries.Goals as goal
 
 pub returns-clause-kept : goal.returns-clause-kept

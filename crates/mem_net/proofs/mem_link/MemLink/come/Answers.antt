@@ -1,6 +1,4 @@
-use Rattle.std.proofs.Common.{sym}
-use Rattle.std.proofs.lemmas.List.{drop-drop}
-use Rattle.mem_net.proofs.Links.{came_more}
+use Rattle.mem_net.proofs.All.{sym, drop-drop, came_more}
 use Rattle.mem_net.proofs.mem_link.MemLink.come.Goals as goal
 
 pub returns-clause-came : goal.returns-clause-came

@@ -1,6 +1,4 @@
-use Rattle.std.proofs.Common.{◌≡◌, ◌<◌, ◌+◌, ◌-◌, ◌++◌, length, take, drop, min, sym, ap, ◌∙◌, arith}
-use Rattle.std.proofs.lemmas.List.{drop-drop}
-use Rattle.mem_net.proofs.Links.{piece_waits, waits_long, read_more}
+use Rattle.mem_net.proofs.All.{◌≡◌, ◌<◌, ◌+◌, ◌-◌, ◌++◌, length, take, drop, min, sym, ap, ◌∙◌, arith, drop-drop, piece_waits, waits_long, read_more}
 use Rattle.mem_net.proofs.mem_link.MemLink.read.Goals as goal
 
 pub returns-then-self : goal.returns-then-self

@@ -1,9 +1,6 @@
-use Rattle.std.proofs.Common.{◌+◌, false, Some, None, refl, arith, slice_set, length-set, ◌∙◌, ap, sym}
-use Rattle.mem_net.specs.LinkState.{arrives}
+use Rattle.mem_net.proofs.All.{◌+◌, false, Some, None, refl, arith, slice_set, length-set, ◌∙◌, ap, sym, arrives, next_fits, state, Leaves, find, moves, place_within, arrival_among, arrive_leaves, same_number}
 use Rattle.link_trait.specs.declared.net.NetEvent.TheVariants as event
 use Rattle.link_trait.specs.declared.act.Act.TheVariants as act
-use Rattle.mem_net.proofs.Moving.{next_fits}
-use Rattle.mem_net.proofs.Acting.{state, Leaves, find, moves, place_within, arrival_among, same_number, arrive_leaves}
 use Rattle.mem_net.proofs.mem_net.MemNet.arrive.Goals as goal
 use Rattle.mem_net.proofs.mem_net.MemNet.arrive.Goals.{After-saturating_add-self-inside}
 

@@ -1,8 +1,5 @@
-use Rattle.std.proofs.Common.{◌≡◌, ◌+◌, false, Some, None, refl, arith, slice_set, length-set, ◌∙◌, ap, sym, if◌then◌else◌}
-use Rattle.mem_net.specs.LinkState.{comes}
+use Rattle.mem_net.proofs.All.{◌≡◌, ◌+◌, false, Some, None, refl, arith, slice_set, length-set, ◌∙◌, ap, sym, if◌then◌else◌, comes, next_fits, state, Leaves, find, moves, place_within, sending_arrived, coming_long, come_leaves}
 use Rattle.link_trait.specs.declared.net.NetEvent.TheVariants as event
-use Rattle.mem_net.proofs.Moving.{next_fits}
-use Rattle.mem_net.proofs.Acting.{state, Leaves, find, moves, place_within, sending_arrived, coming_long, come_leaves}
 use Rattle.mem_net.proofs.mem_net.MemNet.come.Goals as goal
 use Rattle.mem_net.proofs.mem_net.MemNet.come.Goals.{After-come-tells, then-tells, else-tells}
 

@@ -1,8 +1,4 @@
-use Rattle.std.proofs.Common.{◌≡◌, ◌<◌, ◌∙◌, ap, arith, length, take}
-use Rattle.std.proofs.Math.Seq.{take-length}
-use Rattle.mem_net.specs.Acts.{arrivals}
-use Rattle.mem_net.specs.MemNet.{new_links}
-use Rattle.mem_net.proofs.Preparing.{starts}
+use Rattle.mem_net.proofs.All.{◌≡◌, ◌<◌, ◌∙◌, ap, arith, length, take, take-length, arrivals, new_links, starts}
 use Rattle.mem_net.proofs.mem_net.MemNet.new.Goals as goal
 
 pub invariant_of-result : goal.invariant_of-result

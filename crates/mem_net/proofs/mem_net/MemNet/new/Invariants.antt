@@ -1,6 +1,4 @@
-use Rattle.std.proofs.Common.{◌≡◌, take}
-use Rattle.mem_net.specs.Acts.{arrivals}
-use Rattle.mem_net.specs.MemNet.{new_links}
+use Rattle.mem_net.proofs.Below.{◌≡◌, take, arrivals, new_links}
 use Rattle.mem_net.proofs.mem_net.MemNet.new.Given as goal
 
 abbrev pub invariant-acts : goal.invariant-acts

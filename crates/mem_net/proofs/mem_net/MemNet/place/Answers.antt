@@ -1,6 +1,4 @@
-use Rattle.std.proofs.Common.{◌≡◌, ◌∙◌}
-use Rattle.mem_net.specs.Acts.{arrivals}
-use Rattle.mem_net.proofs.Schedules.{sound_rises, arrived}
+use Rattle.mem_net.proofs.All.{◌≡◌, ◌∙◌, arrivals, sound_rises, arrived}
 use Rattle.mem_net.proofs.mem_net.MemNet.place.Goals as goal
 
 pub find-requires : goal.find-requires

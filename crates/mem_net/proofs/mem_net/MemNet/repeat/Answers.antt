@@ -1,10 +1,4 @@
-use Rattle.std.proofs.Common.{◌≡◌, ◌<◌, true, false, Some, refl, arith, sym, ap, ◌∙◌, slice_get, slice_set, length, length-set}
-use Rattle.std.specs.List.{list_any}
-use Rattle.std.proofs.lemmas.Option.{slice_get_read}
-use Rattle.mem_net.specs.LinkState.{is_untold, tells}
-use Rattle.mem_net.specs.Acts.{arrivals}
-use Rattle.mem_net.proofs.Acting.{state, find, moves}
-use Rattle.mem_net.proofs.Resting.{Again, told_again, all_told}
+use Rattle.mem_net.proofs.All.{◌≡◌, ◌<◌, true, false, Some, refl, arith, sym, ap, ◌∙◌, slice_get, slice_set, length, length-set, list_any, slice_get_read, is_untold, tells, arrivals, state, find, moves, Again, told_again, all_told}
 use Rattle.mem_net.proofs.mem_net.MemNet.repeat.Goals as goal
 use Rattle.mem_net.proofs.mem_net.MemNet.repeat.Goals.{After-index}
 

@@ -1,6 +1,5 @@
-use Rattle.std.proofs.Common.{Some, refl, sym, ap, ◌∙◌, length}
+use Rattle.mem_net.proofs.All.{Some, refl, sym, ap, ◌∙◌, length, read_at, plain_at, no_credit}
 use Rattle.link_trait.specs.declared.act.Act.TheVariants as act
-use Rattle.mem_net.proofs.Acting.{read_at, plain_at, no_credit}
 use Rattle.mem_net.proofs.mem_net.MemNet.step.Goals as goal
 
 pub arrive-requires-clause-act : goal.arrive-requires-clause-act

@@ -1,6 +1,4 @@
-use Rattle.std.proofs.Common.{◌<◌, true, refl, arith}
-use Rattle.mem_net.proofs.Acting.{state}
-use Rattle.mem_net.proofs.Resting.{stops}
+use Rattle.mem_net.proofs.All.{◌<◌, true, refl, arith, state, stops}
 use Rattle.mem_net.proofs.mem_net.MemNet.stop.Goals as goal
 
 pub returns-clause-next : goal.returns-clause-next

@@ -1,5 +1,4 @@
-use Rattle.std.proofs.Common.{sym, ap, ◌∙◌}
-use Rattle.mem_net.proofs.Acting.{state, find, not_there}
+use Rattle.mem_net.proofs.All.{sym, ap, ◌∙◌, state, find, not_there}
 use Rattle.mem_net.proofs.mem_net.MemNet.taken.Goals as goal
 
 pub returns-in-Some-clause-octets : goal.returns-in-Some-clause-octets

@@ -1,6 +1,5 @@
-use Rattle.std.proofs.Common.{◌+◌, false, Some, refl}
+use Rattle.mem_net.proofs.All.{◌+◌, false, Some, refl, state, Leaves, tick_leaves}
 use Rattle.link_trait.specs.declared.net.NetEvent.TheVariants as event
-use Rattle.mem_net.proofs.Acting.{state, Leaves, tick_leaves}
 use Rattle.mem_net.proofs.mem_net.MemNet.tick.Goals as goal
 use Rattle.mem_net.proofs.mem_net.MemNet.tick.Goals.{After-saturating_add-self-inside}
 

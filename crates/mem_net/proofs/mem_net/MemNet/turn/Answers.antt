@@ -1,6 +1,5 @@
-use Rattle.std.proofs.Common.{◌+◌, true, Some, refl}
+use Rattle.mem_net.proofs.All.{◌+◌, true, Some, refl, state, Leaves, turn_leaves}
 use Rattle.link_trait.specs.declared.net.NetEvent.TheVariants as event
-use Rattle.mem_net.proofs.Acting.{state, Leaves, turn_leaves}
 use Rattle.mem_net.proofs.mem_net.MemNet.turn.Goals as goal
 use Rattle.mem_net.proofs.mem_net.MemNet.turn.Goals.{After-saturating_add-self-inside}
 

@@ -1,7 +1,4 @@
-use Rattle.std.proofs.Common.{◌≡◌, ◌+◌, ◌<◌, false, refl, arith, sym, ap, ◌∙◌, slice_set, length, length-set, min}
-use Rattle.mem_net.proofs.Acting.{state, find, moves, place_within, arrives_somewhere, not_live}
-use Rattle.mem_net.proofs.Resting.{Touches}
-use Rattle.mem_net.proofs.Using.{Read, read_leaves, neither}
+use Rattle.mem_net.proofs.All.{◌≡◌, ◌+◌, ◌<◌, false, refl, arith, sym, ap, ◌∙◌, slice_set, length, length-set, min, state, find, moves, place_within, arrives_somewhere, not_live, Touches, Read, read_leaves, neither}
 use Rattle.mem_net.proofs.mem_net.MemNetNet.read.Goals as goal
 use Rattle.mem_net.proofs.mem_net.MemNetNet.read.Goals.{After-saturating_add-self-inside}
 

@@ -1,8 +1,4 @@
-use Rattle.std.proofs.Common.{refl, arith, sym, ap, ◌∙◌, slice_set, length-set}
-use Rattle.mem_net.proofs.Acting.{state, find, moves, place_within, not_live}
-use Rattle.mem_net.proofs.Resting.{Touches}
-use Rattle.mem_net.specs.LinkState.{shuts}
-use Rattle.mem_net.proofs.Using.{Shut, shut_leaves}
+use Rattle.mem_net.proofs.All.{refl, arith, sym, ap, ◌∙◌, slice_set, length-set, state, find, moves, place_within, not_live, Touches, shuts, Shut, shut_leaves}
 use Rattle.mem_net.proofs.mem_net.MemNetNet.shut.Goals as goal
 use Rattle.mem_net.proofs.mem_net.MemNetNet.shut.Goals.{After-shut}
 

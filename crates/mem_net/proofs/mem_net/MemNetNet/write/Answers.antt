@@ -1,9 +1,5 @@
-use Rattle.std.proofs.Common.{◌≡◌, ◌<◌, true, false, refl, arith, sym, ap, ◌∙◌, slice_set, length, length-set}
-use Rattle.mem_net.specs.LinkState.{takes, fails}
+use Rattle.mem_net.proofs.All.{◌≡◌, ◌<◌, true, false, refl, arith, sym, ap, ◌∙◌, slice_set, length, length-set, takes, fails, state, find, moves, place_within, not_live, Touches, Wrote, took_leaves, fail_leaves}
 use Rattle.link_trait.specs.declared.net.NetWrote.TheVariants as wrote
-use Rattle.mem_net.proofs.Acting.{state, find, moves, place_within, not_live}
-use Rattle.mem_net.proofs.Resting.{Touches}
-use Rattle.mem_net.proofs.Using.{Wrote, took_leaves, fail_leaves}
 use Rattle.mem_net.proofs.mem_net.MemNetNet.write.Goals as goal
 use Rattle.mem_net.proofs.mem_net.MemNetNet.write.Goals.{After-saturating_add-self-inside, After-take}
 

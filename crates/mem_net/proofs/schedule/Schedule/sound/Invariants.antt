@@ -1,5 +1,4 @@
-use Rattle.std.proofs.Common.{◌≡◌, take, drop}
-use Rattle.mem_net.specs.Schedule.{is_sound, are_sound_after}
+use Rattle.mem_net.proofs.Below.{◌≡◌, take, drop, is_sound, are_sound_after}
 use Rattle.mem_net.proofs.schedule.Schedule.sound.Given as goal
 
 abbrev pub invariant-acts : goal.invariant-acts

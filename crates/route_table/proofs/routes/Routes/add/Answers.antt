@@ -1,6 +1,4 @@
-use Rattle.std.proofs.Common.{rules, ◌≡◌, ◌+◌, length, arith, subst}
-use Rattle.route_table.specs.Whole.{AllRows, IsRow}
-use Rattle.route_table.proofs.PatternLemmas.{inserted_rows}
+use Rattle.route_table.proofs.All.{rules, ◌≡◌, ◌+◌, length, arith, subst, AllRows, IsRow, inserted_rows}
 use Rattle.route_table.proofs.routes.Routes.add.Goals as goal
 
 -- the new row is the one that the pattern reads as, with the next number

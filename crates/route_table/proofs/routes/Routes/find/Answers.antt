@@ -1,8 +1,4 @@
-use Rattle.std.proofs.Common.{IsUtf8, subst, sym, arith}
-use Rattle.std.proofs.lemmas.List.{length-map}
-use Rattle.route_table.specs.Table.{first_value}
-use Rattle.matchit.specs.Params.{walk}
-use Rattle.route_table.proofs.PartLemmas.{found_row}
+use Rattle.route_table.proofs.All.{IsUtf8, subst, sym, arith, length-map, first_value, walk, found_row}
 use Rattle.route_table.proofs.routes.Routes.find.Goals as goal
 
 -- what the first parameter took is text, so that `matchit` shows it as it is

@@ -1,12 +1,5 @@
-use Rattle.std.proofs.Common.{◌≡◌, [], ◌∷◌, ◌++◌, None, refl, sym, subst}
-use Rattle.std.specs.Result.{OnOk}
-use Rattle.std.proofs.lemmas.Result.{on_ok_weaker}
-use Rattle.link_trait.specs.declared.act.Act.{Act}
+use Rattle.schedule_text.proofs.All.{◌≡◌, [], ◌∷◌, ◌++◌, None, refl, sym, subst, OnOk, on_ok_weaker, Act, HasLine, fault_after, Arrives, Ends, Follows, follows_arrival, follows_end, follows_other, has_come, rises}
 use Rattle.link_trait.specs.declared.act.Act.TheVariants as act
-use Rattle.schedule_text.specs.Spelling.{HasLine}
-use Rattle.schedule_text.specs.Reading.{fault_after}
-use Rattle.schedule_text.specs.Arrivals.{Arrives, Ends, Follows}
-use Rattle.schedule_text.proofs.Followed.{follows_arrival, follows_end, follows_other, has_come, rises}
 use Rattle.schedule_text.proofs.arrivals.Arrivals.add.Goals as goal
 
 pub returns-in-Arrive : goal.returns-in-Arrive

@@ -1,7 +1,4 @@
-use Rattle.std.proofs.Common.{sym, ◌∙◌, ap, subst}
-use Rattle.link_trait.specs.declared.act.Act.{Act}
-use Rattle.schedule_text.specs.Spelling.{HasLine}
-use Rattle.schedule_text.specs.Reading.{fault_after}
+use Rattle.schedule_text.proofs.All.{sym, ◌∙◌, ap, subst, Act, HasLine, fault_after}
 use Rattle.schedule_text.proofs.arrivals.Arrivals.fault.Goals as goal
 
 pub returns-in-Arrive : goal.returns-in-Arrive

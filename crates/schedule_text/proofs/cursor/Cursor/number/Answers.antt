@@ -1,6 +1,4 @@
-use Rattle.std.proofs.Common.{List, ℕ, take, subst, sym, arith}
-use Rattle.std.specs.Str.Parse.{AllDigits}
-use Rattle.schedule_text.proofs.Fronts.{count_le, front_digits}
+use Rattle.schedule_text.proofs.All.{List, ℕ, take, subst, sym, arith, AllDigits, count_le, front_digits}
 use Rattle.schedule_text.proofs.cursor.Cursor.number.Goals as goal
 
 pub split_at-requires : goal.split_at-requires

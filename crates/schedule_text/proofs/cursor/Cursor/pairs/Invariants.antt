@@ -1,5 +1,4 @@
-use Rattle.std.proofs.Common.{◌≡◌, ◌++◌, length}
-use Rattle.schedule_text.specs.Front.{pairs_at}
+use Rattle.schedule_text.proofs.Below.{◌≡◌, ◌++◌, length, pairs_at}
 use Rattle.schedule_text.proofs.cursor.Cursor.pairs.Given as goal
 
 abbrev pub invariant-pairs : goal.invariant-pairs

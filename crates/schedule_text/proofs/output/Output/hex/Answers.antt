@@ -1,7 +1,4 @@
-use Rattle.std.proofs.Common.{◌≡◌, ◌++◌, ℕ, ◌+◌, ◌/◌, ◌%◌, [], ◌∷◌, List, drop, take, get_or, subst, ◌∙◌, ap}
-use Rattle.schedule_text.specs.Line.{hex, hex_digit}
-use Rattle.schedule_text.specs.Output.{Puts, Fails}
-use Rattle.schedule_text.proofs.Outputs.{exit, fails_more, puts_fails, puts_then, hex_next, hex_parted}
+use Rattle.schedule_text.proofs.All.{◌≡◌, ◌++◌, ℕ, ◌+◌, ◌/◌, ◌%◌, [], ◌∷◌, List, drop, take, get_or, subst, ◌∙◌, ap, hex, hex_digit, Puts, Fails, exit, fails_more, puts_fails, puts_then, hex_next, hex_parted}
 use Rattle.schedule_text.proofs.output.Output.hex.Goals as goal
 
 pub returns-in_err-put : goal.returns-in_err-put

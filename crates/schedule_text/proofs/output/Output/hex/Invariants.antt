@@ -1,6 +1,4 @@
-use Rattle.std.proofs.Common.{take}
-use Rattle.schedule_text.specs.Line.{hex}
-use Rattle.schedule_text.specs.Output.{Puts}
+use Rattle.schedule_text.proofs.Below.{take, hex, Puts}
 use Rattle.schedule_text.proofs.output.Output.hex.Given as goal
 
 abbrev pub invariant-octets : goal.invariant-octets

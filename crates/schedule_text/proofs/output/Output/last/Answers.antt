@@ -1,8 +1,4 @@
-use Rattle.std.proofs.Common.{subst, sym}
-use Rattle.schedule_text.specs.declared.output.Last.{Last}
-use Rattle.schedule_text.specs.Line.{hex}
-use Rattle.schedule_text.specs.Output.{PutsOrFails, last_text}
-use Rattle.schedule_text.proofs.Outputs.{exit_before, then}
+use Rattle.schedule_text.proofs.All.{subst, sym, Last, hex, PutsOrFails, last_text, exit_before, then}
 use Rattle.schedule_text.proofs.output.Output.last.Goals as goal
 
 pub returns-in_err-put-in-Word : goal.returns-in_err-put-in-Word

@@ -1,7 +1,4 @@
-use Rattle.std.proofs.Common.{◌++◌, ℕ, [], ◌∷◌, List, decimal, subst}
-use Rattle.std.specs.List.{flat_map}
-use Rattle.schedule_text.specs.Output.{PutsOrFails, last_text}
-use Rattle.schedule_text.proofs.Outputs.{exit, fails_more, puts_fails, then, line_text}
+use Rattle.schedule_text.proofs.All.{◌++◌, ℕ, [], ◌∷◌, List, decimal, subst, flat_map, PutsOrFails, last_text, exit, fails_more, puts_fails, then, line_text}
 use Rattle.schedule_text.proofs.output.Output.line.Goals as goal
 
 abbrev numbers_text : List ℕ → List ℕ

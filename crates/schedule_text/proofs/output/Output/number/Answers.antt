@@ -1,6 +1,4 @@
-use Rattle.std.proofs.Common.{◌≡◌, List, ℕ, ◌∷◌, decimal, subst, ◌∙◌}
-use Rattle.schedule_text.specs.Output.{PutsOrFails}
-use Rattle.schedule_text.proofs.Outputs.{exit_before, then}
+use Rattle.schedule_text.proofs.All.{◌≡◌, List, ℕ, ◌∷◌, decimal, subst, ◌∙◌, PutsOrFails, exit_before, then}
 use Rattle.schedule_text.proofs.output.Output.number.Goals as goal
 
 pub returns-in_err-put : goal.returns-in_err-put

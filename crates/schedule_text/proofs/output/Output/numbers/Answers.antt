@@ -1,7 +1,4 @@
-use Rattle.std.proofs.Common.{◌≡◌, ◌++◌, ℕ, ◌+◌, ◌∷◌, List, drop, take, get_or, decimal, subst, ◌∙◌, ap}
-use Rattle.std.specs.List.{flat_map}
-use Rattle.schedule_text.specs.Output.{Puts, Fails}
-use Rattle.schedule_text.proofs.Outputs.{exit, fails_more, puts_fails, puts_then, flat_map_next, flat_map_parted}
+use Rattle.schedule_text.proofs.All.{◌≡◌, ◌++◌, ℕ, ◌+◌, ◌∷◌, List, drop, take, get_or, decimal, subst, ◌∙◌, ap, flat_map, Puts, Fails, exit, fails_more, puts_fails, puts_then, flat_map_next, flat_map_parted}
 use Rattle.schedule_text.proofs.output.Output.numbers.Goals as goal
 
 abbrev behind_space : ℕ → List ℕ

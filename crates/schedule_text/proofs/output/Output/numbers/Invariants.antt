@@ -1,6 +1,4 @@
-use Rattle.std.proofs.Common.{◌∷◌, take, decimal}
-use Rattle.std.specs.List.{flat_map}
-use Rattle.schedule_text.specs.Output.{Puts}
+use Rattle.schedule_text.proofs.Below.{◌∷◌, take, decimal, flat_map, Puts}
 use Rattle.schedule_text.proofs.output.Output.numbers.Given as goal
 
 abbrev pub invariant-numbers : goal.invariant-numbers

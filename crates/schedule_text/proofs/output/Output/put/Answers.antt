@@ -1,6 +1,4 @@
-use Rattle.std.proofs.Common.{List, ℕ, [], subst, sym}
-use Rattle.schedule_text.specs.Output.{Puts, Fails, PutsOrFails}
-use Rattle.schedule_text.proofs.Outputs.{exit_before, then}
+use Rattle.schedule_text.proofs.All.{List, ℕ, [], subst, sym, Puts, Fails, PutsOrFails, exit_before, then}
 use Rattle.schedule_text.proofs.output.Output.put.Goals as goal
 
 pub returns-in_err-flush : goal.returns-in_err-flush

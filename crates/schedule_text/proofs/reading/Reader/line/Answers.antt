@@ -1,10 +1,5 @@
-use Rattle.std.proofs.Common.{ℕ, ◌+◌, List, length, sym, ◌∙◌, subst}
-use Rattle.link_trait.specs.declared.act.Act.{Act}
+use Rattle.schedule_text.proofs.All.{ℕ, ◌+◌, List, length, sym, ◌∙◌, subst, Act, act_at, Begins, IsRefused, Follows, bad_line, broken_line, next_line, taken_some, taken_none, none_from, shorter, line_is}
 use Rattle.schedule_text.specs.declared.fault.Fault.TheVariants as fault
-use Rattle.schedule_text.specs.Front.{act_at}
-use Rattle.schedule_text.specs.Reading.{Begins, IsRefused}
-use Rattle.schedule_text.specs.Arrivals.{Follows}
-use Rattle.schedule_text.proofs.Begun.{bad_line, broken_line, next_line, taken_some, taken_none, none_from, shorter, line_is}
 use Rattle.schedule_text.proofs.reading.Reader.line.Goals as goal
 
 pub returns-in_default-clause-line : goal.returns-in_default-clause-line

@@ -1,12 +1,4 @@
-use Rattle.std.proofs.Common.{◌≡◌, ℕ, List, length, sym, ap, ◌∙◌, subst}
-use Rattle.ws_kinds.specs.NoteValue.{took}
-use Rattle.ws_kinds.specs.Watch.{IsNoted}
-use Rattle.link_trait.specs.Net.{Writes}
-use Rattle.link_trait.specs.declared.net.NetWrote.TheVariants.{Took as Accepted}
-use Rattle.hub_lines.proofs.StepLemmas.{moves_whole, others_took}
-use Rattle.hub_lines.proofs.CallLemmas.{noted_took}
-use Rattle.socket_core.specs.Items.{octets_of, can_drop}
-use Rattle.socket_core.proofs.OfferLemmas.{offers_took, front_failed}
+use Rattle.socket_core.proofs.All.{◌≡◌, ℕ, List, length, sym, ap, ◌∙◌, subst, took, IsNoted, Writes, Accepted, moves_whole, others_took, noted_took, octets_of, can_drop, offers_took, front_failed}
 use Rattle.socket_core.proofs.socket.Socket.put_frame.Goals as goal
 
 pub returns-clause-moves : goal.returns-clause-moves

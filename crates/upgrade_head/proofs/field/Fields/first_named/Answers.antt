@@ -1,8 +1,4 @@
-use Rattle.std.proofs.Common.{◌≡◌, ℕ, List, false, length, subst, sym, ◌∙◌, arith}
-use Rattle.std.specs.Str.{str_eq_ignore_ascii_case}
-use Rattle.std.proofs.lemmas.List.Elements.{All-rest}
-use Rattle.httparse.specs.Spans.{IsHeaderWithin, header_bytes}
-use Rattle.upgrade_head.proofs.FieldLemmas.{one_more}
+use Rattle.upgrade_head.proofs.All.{◌≡◌, ℕ, List, false, length, subst, sym, ◌∙◌, arith, str_eq_ignore_ascii_case, All-rest, IsHeaderWithin, header_bytes, one_more}
 use Rattle.upgrade_head.proofs.field.Fields.first_named.Goals as goal
 
 pub fields-preserved : goal.fields-preserved

@@ -1,8 +1,4 @@
-use Rattle.std.proofs.Common.{◌≡◌, ◌≤◌, length, map}
-use Rattle.std.specs.Prelude.{All}
-use Rattle.httparse.specs.Spans.{IsHeaderWithin, header_bytes}
-use Rattle.upgrade_head.specs.Field.{values_of}
-use Rattle.upgrade_head.specs.View.{fields_seen}
+use Rattle.upgrade_head.proofs.Below.{◌≡◌, ◌≤◌, length, map, All, IsHeaderWithin, header_bytes, values_of, fields_seen}
 use Rattle.upgrade_head.proofs.field.Fields.first_named.Given as goal
 
 abbrev pub invariant-fields : goal.invariant-fields

@@ -1,6 +1,4 @@
-use Rattle.std.proofs.Common.{◌≡◌, length}
-use Rattle.upgrade_head.specs.Field.{has_element}
-use Rattle.upgrade_head.specs.View.{fields_seen}
+use Rattle.upgrade_head.proofs.Below.{◌≡◌, length, has_element, fields_seen}
 use Rattle.upgrade_head.proofs.field.Fields.has_element.Given as goal
 
 abbrev pub invariant-fields : goal.invariant-fields

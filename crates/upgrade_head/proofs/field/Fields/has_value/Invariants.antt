@@ -1,6 +1,4 @@
-use Rattle.std.proofs.Common.{◌≡◌, length}
-use Rattle.upgrade_head.specs.Field.{has_value}
-use Rattle.upgrade_head.specs.View.{fields_seen}
+use Rattle.upgrade_head.proofs.Below.{◌≡◌, length, has_value, fields_seen}
 use Rattle.upgrade_head.proofs.field.Fields.has_value.Given as goal
 
 abbrev pub invariant-fields : goal.invariant-fields

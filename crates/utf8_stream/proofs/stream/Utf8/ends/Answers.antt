@@ -1,7 +1,4 @@
-use Rattle.std.proofs.Common.{[], sym, ap, subst, ◌∙◌}
-use Rattle.utf8_stream.specs.Unfinished.{IsCarried, carried_octets}
-use Rattle.utf8_stream.specs.Stream.{accepts}
-use Rattle.utf8_stream.proofs.StreamLemmas.{Follows-end, accepts-nil}
+use Rattle.utf8_stream.proofs.All.{[], sym, ap, subst, ◌∙◌, IsCarried, carried_octets, accepts, Follows-end, accepts-nil}
 use Rattle.utf8_stream.proofs.stream.Utf8.ends.Goals as goal
 
 pub returns-in-None-clause-text : goal.returns-in-None-clause-text

@@ -1,8 +1,4 @@
-use Rattle.std.proofs.Common.{◌++◌, Some, sym, ap, subst, ◌∙◌}
-use Rattle.wire_meaning.proofs.TextFront.{not_front}
-use Rattle.utf8_stream.specs.Unfinished.{carried_octets}
-use Rattle.utf8_stream.specs.Stream.{accepts, Follows}
-use Rattle.utf8_stream.proofs.StreamLemmas.{Follows-push, accepts-pushed, is_text_front-None, is_text_front-state}
+use Rattle.utf8_stream.proofs.All.{◌++◌, Some, sym, ap, subst, ◌∙◌, not_front, carried_octets, accepts, Follows, Follows-push, accepts-pushed, is_text_front-None, is_text_front-state}
 use Rattle.utf8_stream.proofs.stream.Utf8.push.Goals as goal
 
 pub returns-in_default-clause-text : goal.returns-in_default-clause-text

@@ -2,7 +2,7 @@ use Rattle.ws_program.proofs.StepLemmas.{message_step, ping_step, close_step, fa
 use Rattle.ws_program.proofs.answers.Answers.answer.Goals as goal
 
 pub returns-in-Message-clause-step : goal.returns-in-Message-clause-step
-returns-in-Message-clause-step g c = message_step _ c.args.step _ _ _ _ c.in-Message.kind c.in-Message.octets c.opcode_of.result c.in-Message.is c.opcode_of.ensures c.put_event.ensures.puts
+returns-in-Message-clause-step g c = message_step _ c.args.step _ _ _ _ c.in-Message.kind c.in-Message.octets c.in-Message.is c.put_event.ensures.puts
 
 pub returns-in-Ping-clause-step : goal.returns-in-Ping-clause-step
 returns-in-Ping-clause-step g c = ping_step _ c.args.step _ _ _ _ c.in-Ping.payload c.in-Ping.is c.put_event-in-Ping.ensures.puts

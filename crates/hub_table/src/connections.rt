@@ -1,0 +1,254 @@
+//! The table of a hub's connections.
+
+ghost use Rattle.std.specs.Prelude.{◌≡◌, ◌≢◌, ◌+◌, ◌-◌, ◌^◌, ◌<◌, ◌≤◌, ◌++◌, [], ◌∷◌, true, false, min, length, IfOk, OnErr, OnOk, Some, None, nat_eq, if◌then◌else◌, ℕ};
+ghost use Rattle.std.specs.Option.{option_map};
+ghost use Rattle.ws_kinds.specs.ConfigValue.{IsConfig};
+ghost use Rattle.hub_lines.specs.Told.{ShortWhereHeld};
+ghost use Rattle.hub_lines.specs.State.{entry_of, has_entry, is_gone, new_entry};
+ghost use Rattle.hub_lines.specs.Moves.{Moves, Others, buffered_of};
+ghost use Rattle.hub_notes.specs.Progress.{due_of};
+ghost use Rattle.hub_lines.specs.Fronts.{FailsWithin};
+ghost use Rattle.socket_core.specs.Items.{octets_of, can_drop, IsPuttable};
+ghost use Rattle.socket_core.specs.Phases.{can_enter};
+ghost use Rattle.socket_core.specs.Puts.{TellsRing, TellsFailure, OffersNoted, KeepsNet};
+ghost use Rattle.hub_table.specs.Parting.{parting_value};
+ghost use Rattle.hub_notes.specs.Table.{IsTable, ChangesOne, due_when_gone, IsNextEnding, TakesDue};
+
+use crate::changes;
+use crate::connection_map::ConnectionMap;
+use crate::parting::Parting;
+use link_trait::{Net, Outside};
+use socket_core::{Item, Kept, Socket};
+use std::alloc::{AllocError, Global};
+use std::marker::Model;
+use ws_kinds::{Config, Conn, Phase, Watch};
+
+/// All connections of a hub, in the order of their numbers, and the Closed events that are due: those of which the handler was
+/// not told yet.
+///
+/// A connection is an entry from `accept` on, as long as it is not gone, or its Closed event is due. Memory is taken by `new`
+/// and `accept` alone.
+#[derive(Drop)]
+pub struct Connections {
+    alloc: Global,
+    config: Config,
+    named: u64,
+    table: ConnectionMap,
+}
+
+impl Model for Connections {
+    ghost use Rattle.hub_notes.specs.Table.{TableState};
+    ghost use Rattle.hub_table.specs.Connection.{table_state};
+    ghost use Rattle.hub_table.specs.ConnectionMap.{IsKept};
+
+    ghost Value = { TableState };
+
+    ghost view = { λ c. table_state c.config c.named c.table.all };
+
+    ghost invariant = { λ c. IsKept c.config c.named c.table };
+}
+
+impl Connections {
+    /// An empty table, with room for as many connections as there may be. An error says that there was too little memory.
+    pub fn new(alloc: Global, config: Config) -> Result<Connections, AllocError>
+        ensures empty { IfOk result (λ table. table ≡ record { config = config; named = 0; entries = []; partings = [] }) }
+        ensures table { IfOk result (λ table. IsTable table) }
+    {
+        Ok(Connections {
+            alloc,
+            config,
+            named: 0,
+            table: ConnectionMap::with_room(alloc, config.max_conns() as usize)?,
+        })
+    }
+
+    /// How many connections there are, at most as many as there may be. Those that are gone count as long as their Closed
+    /// event is due.
+    pub fn count(&self) -> usize
+        ensures value { result ≡ length self.now.entries }
+        ensures table { IsTable self.now }
+    {
+        self.table.count()
+    }
+
+    /// Whether there are as many connections as there may be, so that none can be accepted.
+    pub fn is_full(&self) -> bool
+        ensures value { result ≡ nat_eq (length self.now.entries) self.now.config.max_conns }
+        ensures table { IsTable self.now }
+    {
+        self.table.count() == self.config.max_conns() as usize
+    }
+
+    /// The octets that one message may have, from 1 to 65,536.
+    pub fn max_message(&self) -> u32
+        ensures value { result ≡ self.now.config.max_message }
+        ensures ranges { IsConfig self.now.config }
+    {
+        self.config.max_message()
+    }
+
+    /// The phase of a connection. None where it is no entry.
+    pub fn phase(&self, conn: Conn) -> Option<Phase>
+        ensures { result ≡ (if has_entry self.now.entries conn.0 then Some (entry_of self.now.entries conn.0).phase else None) }
+    {
+        match self.table.get(conn) {
+            Some(connection) => Some(connection.socket.phase()),
+            None => None,
+        }
+    }
+
+    /// The connection is an entry from now on, in phase Head. Its number is greater than each that was accepted before, and
+    /// the table is not full. An error says that there was too little memory, and leaves the table as it was.
+    pub fn accept(&mut self, conn: Conn) -> Result<(), AllocError>
+        requires new { self.old.named < conn.0 }
+        requires room { length self.old.entries < self.old.config.max_conns }
+        ensures refused { OnErr result (self.new ≡ self.old) }
+        ensures table { IsTable self.new }
+        ensures accepted { OnOk result (self.new ≡ record self.old { named = conn.0; entries = self.old.entries ++ new_entry self.old.config conn.0 ∷ [] }) }
+    {
+        let socket = Socket::new(self.alloc, conn, &self.config)?;
+        self.table.add(socket)?;
+        self.named = conn.0;
+        Ok(())
+    }
+
+    /// Puts an item for a connection that is past Head, as its socket does: it gets the connection's next index, counted from
+    /// 0, its octets are offered to the link, and what the link took is noted.
+    ///
+    /// Where the write fails, the answer is `Failed`, and nothing is noted; the net counted the fault, and the connection
+    /// stays in its phase.
+    pub fn put_frame<N: Net, W: Watch>(
+        &mut self,
+        out: &mut Outside<N, W>,
+        conn: Conn,
+        item: Item<'_>,
+    ) -> Kept
+        requires there { has_entry self.old.entries conn.0 ≡ true }
+        requires live { (N.state out.old.net).live conn.0 ≡ true }
+        requires item { IsPuttable self.old.config (entry_of self.old.entries conn.0).numbered item }
+        requires past_head { (entry_of self.old.entries conn.0).phase ≢ Phase.Head }
+
+        ensures moves { result ≢ Kept.Failed →
+            Moves conn.0 self.old.config.limit (can_drop item.entry) (octets_of item.entry ∷ [])
+            (buffered_of (entry_of self.old.entries conn.0) []) (buffered_of (entry_of self.new.entries conn.0) [])
+            (N.state out.old.net) (N.state out.new.net) (W.told out.old.watch) (W.told out.new.watch) }
+        ensures others { Others conn.0 (N.state out.old.net) (N.state out.new.net) (W.told out.old.watch) (W.told out.new.watch) }
+        ensures offers { OffersNoted result conn.0 (N.state out.old.net) (N.state out.new.net) (W.told out.old.watch) (W.told out.new.watch) }
+        ensures front { result ≡ Kept.Failed → FailsWithin conn.0 (octets_of item.entry ∷ []) (buffered_of (entry_of self.old.entries conn.0) [])
+            (N.state out.old.net) (N.state out.new.net) (W.told out.old.watch) (W.told out.new.watch) }
+        ensures short { result ≢ Kept.Failed → ShortWhereHeld conn.0 (entry_of self.old.entries conn.0).ring (W.told out.old.watch) →
+            ShortWhereHeld conn.0 (entry_of self.new.entries conn.0).ring (W.told out.new.watch) }
+        ensures kept { TellsRing result (entry_of self.new.entries conn.0).ring }
+        ensures failed { TellsFailure result conn.0 (N.state out.old.net) (N.state out.new.net) (W.told out.old.watch) (W.told out.new.watch) }
+        ensures net { KeepsNet conn.0 (N.state out.old.net) (N.state out.new.net) }
+        ensures numbered { (entry_of self.new.entries conn.0).numbered ≡ min ((entry_of self.old.entries conn.0).numbered + 1) (2 ^ 64 - 1) }
+        ensures ring { (entry_of self.new.entries conn.0).ring ≡ [] }
+        ensures phase { (entry_of self.new.entries conn.0).phase ≡ (entry_of self.old.entries conn.0).phase }
+        ensures quiet { (entry_of self.new.entries conn.0).quiet ≡ (entry_of self.old.entries conn.0).quiet }
+        ensures there { has_entry self.new.entries conn.0 ≡ true }
+        ensures due { due_of self.new.partings conn.0 ≡ due_of self.old.partings conn.0 }
+        ensures table { IsTable self.new }
+        ensures elsewhere { ChangesOne conn.0 self.old self.new }
+        ensures tally { out.new.tally ≡ out.old.tally }
+    {
+        self.table.put(out, conn, item)
+    }
+
+    /// A connection goes on to a phase: from Head to Open or Ending, or from Leaving to Ending. It does not leave Open by this,
+    /// and is not gone.
+    pub fn enter(&mut self, conn: Conn, phase: Phase)
+        requires there { has_entry self.old.entries conn.0 ≡ true }
+        requires step { can_enter (entry_of self.old.entries conn.0).phase phase ≡ true }
+        requires stays { (entry_of self.old.entries conn.0).phase ≢ Phase.Open }
+        requires live { phase ≢ Phase.Gone }
+        ensures entry { entry_of self.new.entries conn.0 ≡ record (entry_of self.old.entries conn.0) { phase = phase } }
+        ensures there { has_entry self.new.entries conn.0 ≡ true }
+        ensures table { IsTable self.new }
+        ensures fresh { (entry_of self.old.entries conn.0).phase ≡ Phase.Head → (entry_of self.old.entries conn.0).numbered ≡ 0 }
+        ensures due { due_of self.new.partings conn.0 ≡ due_of self.old.partings conn.0 }
+        ensures elsewhere { ChangesOne conn.0 self.old self.new }
+    {
+        self.table.enter(conn, phase);
+    }
+
+    /// An open connection is ending, and its Closed event is due, with this code and this reason of at most 123 octets: those of
+    /// the peer's close, or the code of a failure and no reason (RFC 6455, sections 7.1.5 and 7.1.6).
+    pub fn close(&mut self, conn: Conn, code: u16, reason: &[u8])
+        requires open { (entry_of self.old.entries conn.0).phase ≡ Phase.Open }
+        requires short { length reason.now ≤ 123 }
+        ensures entry { entry_of self.new.entries conn.0 ≡ record (entry_of self.old.entries conn.0) { phase = Phase.Ending } }
+        ensures there { has_entry self.new.entries conn.0 ≡ true }
+        ensures table { IsTable self.new }
+        ensures due { due_of self.new.partings conn.0 ≡ Some (code, reason.now) }
+        ensures elsewhere { ChangesOne conn.0 self.old self.new }
+    {
+        let parting = changes::parting_of(conn, code, reason);
+        self.table.part(conn, Phase::Ending, parting);
+    }
+
+    /// A connection is gone. Where it was open, its Closed event is due, with the code 1006 (RFC 6455, section 7.1.5); an event
+    /// that was due stays due. It is an entry as long as one is due, and none otherwise.
+    pub fn leave(&mut self, conn: Conn)
+        requires { is_gone (entry_of self.old.entries conn.0).phase ≡ false }
+        ensures gone { is_gone (entry_of self.new.entries conn.0).phase ≡ true }
+        ensures table { IsTable self.new }
+        ensures due { due_of self.new.partings conn.0 ≡ due_when_gone (entry_of self.old.entries conn.0).phase (due_of self.old.partings conn.0) }
+        ensures elsewhere { ChangesOne conn.0 self.old self.new }
+    {
+        if self.table.at(conn).is_open() {
+            let parting = changes::parting_of(conn, 1006, &[]);
+            self.table.part(conn, Phase::Gone, parting);
+            return;
+        }
+        if self.table.at(conn).is_due() {
+            self.table.enter(conn, Phase::Gone);
+            return;
+        }
+        let _ = self.table.forget(conn);
+    }
+
+    /// How many octets the link of a connection did not take. It is 0 for one that is no entry.
+    pub fn held(&self, conn: Conn) -> u64
+        ensures { result ≡ length (entry_of self.now.entries conn.0).ring }
+    {
+        match self.table.get(conn) {
+            Some(connection) => connection.socket.ring_length(),
+            None => 0,
+        }
+    }
+
+    /// Says that no octets are held for any connection, as long as each frame is written by itself when it is put. This is a
+    /// law, and calls for nothing to be done.
+    pub fn no_rings(&self)
+        ensures { (conn : ℕ) → (entry_of self.now.entries conn).ring ≡ [] }
+    {
+        let _ = &self.table;
+    }
+
+    /// Says that no ticks are counted for any connection yet. This is a law, and calls for nothing to be done.
+    pub fn no_ticks(&self)
+        ensures { (conn : ℕ) → (entry_of self.now.entries conn).quiet ≡ record { ticks = 0; leaving = 0 } }
+    {
+        let _ = &self.table;
+    }
+
+    /// The Closed event of the least connection for which one is due, and None where none is due for any. It is due no more;
+    /// its connection is no entry any more, if it is gone.
+    pub fn next_closed(&mut self) -> Option<Parting>
+        ensures takes { TakesDue (option_map parting_value result) self.old self.new }
+        ensures table { IsTable self.new }
+    {
+        let conn = self.table.first_due()?;
+        if self.table.at(conn).is_gone() {
+            return self.table.forget(conn);
+        }
+        self.table.take(conn)
+    }
+
+    /// The least connection above `after` that is in phase Ending, and None where there is none.
+    pub fn next_ending(&self, after: Conn) -> Option<Conn>
+        ensures { IsNextEnding self.now.entries after.0 (option_map (λ conn. conn.0) result) }
+    {
+        self.table.next_ending(after)
+    }
+}
