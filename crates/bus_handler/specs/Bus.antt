@@ -1,13 +1,11 @@
 -- What the built-in handler orders, and its routes.
 use Rattle.std.specs.Prelude.{ℕ, List, [], ◌∷◌, ◌+◌, Option, Some, None, nat_eq, take, drop, codes, if◌then◌else◌}
 use Rattle.std.specs.List.{position}
-use Rattle.std.specs.Option.{unwrap_or}
+use Rattle.std.specs.Option.{option_to_list, unwrap_or}
 use Rattle.ws_kinds.specs.declared.kind.Kind.{Kind}
 use Rattle.ws_kinds.specs.EventValue.{EventValue, WhatValue, opened, message, told, closed}
 use Rattle.ws_kinds.specs.OrderValue.{OrderValue, send, subscribe, unsubscribe, publish}
 use Rattle.route_table.specs.Table.{RouteTable, no_routes, with_route}
-use Rattle.bus_handler.specs.declared.order.BusOrder.{BusOrder}
-use Rattle.bus_handler.specs.declared.order.BusOrder.TheVariants as order
 
 -- ---- the routes, by their numbers
 
@@ -62,9 +60,6 @@ order_on route conn param (closed code reason) = None
 abbrev pub bus_order : EventValue → Option OrderValue
 bus_order event = order_on event.route event.conn event.param event.what
 
--- the value of an order of the handler
-abbrev pub bus_order_value : BusOrder → OrderValue
-bus_order_value (order.Send to kind body) = send to.0 kind body.now
-bus_order_value (order.Subscribe topic) = subscribe topic.now
-bus_order_value (order.Unsubscribe topic) = unsubscribe topic.now
-bus_order_value (order.Publish topic kind body) = publish topic.now kind body.now
+-- the orders that answer an event: that one, or none
+abbrev pub bus_said : EventValue → List OrderValue
+bus_said event = option_to_list (bus_order event)

@@ -2,14 +2,14 @@
 
 ghost use Rattle.std.specs.Prelude.{◌≡◌, ◌<◌, ◌≤◌, false, length, option_map, IfOk, IfErr, OnOk};
 ghost use Rattle.ws_kinds.specs.EventValue.{event_value, opened};
+ghost use Rattle.ws_kinds.specs.OrderValue.{order_value};
 ghost use Rattle.route_table.specs.Table.{is_refused, with_route};
-ghost use Rattle.bus_handler.specs.Bus.{bus_order_value, bus_order, order_on, message_order, routes_of_bus};
+ghost use Rattle.bus_handler.specs.Bus.{bus_order, order_on, message_order, routes_of_bus};
 
-use crate::BusOrder;
 use crate::command::command;
 use route_table::{RouteFault, Routes};
 use std::alloc::Global;
-use ws_kinds::{Event, Kind, What};
+use ws_kinds::{Event, Handler, Kind, Order, Orders, What};
 
 /// The number of `/echo`.
 const ECHO_ROUTE: u8 = 0;
@@ -47,14 +47,40 @@ impl Bus {
     ///
     /// The kind of a message does not matter for what it orders. A topic is not looked at here: whether it is one is the
     /// server's matter.
-    pub fn order<'m>(event: Event<'m>) -> Option<BusOrder<'m>>
-        ensures { option_map bus_order_value result ≡ bus_order (event_value event.entry) }
+    pub fn order<'m>(event: Event<'m>) -> Option<Order<'m>>
+        ensures { option_map order_value result ≡ bus_order (event_value event.entry) }
     {
         match event.what {
             What::Opened => opened(event),
             What::Message { kind, body } => on_message(event, kind, body),
             What::Told { .. } => None,
             What::Closed { .. } => None,
+        }
+    }
+}
+
+impl Handler for Bus {
+    ghost use Rattle.std.specs.Prelude.{⊤};
+    ghost use Rattle.std.proofs.Common.{arith, rules};
+    ghost use Rattle.bus_handler.specs.Bus.{bus_said};
+
+    ghost State = { ⊤ };
+
+    ghost state = { λ bus. tt {0} };
+
+    ghost after = { λ state _. state };
+
+    ghost said = { λ _ event. bus_said event };
+
+    ghost said_few = { λ now event. Prim.grind (arith, rules) };
+
+    fn on(&mut self, event: Event<'_>) {
+        let _ = event;
+    }
+
+    fn orders<'m>(&'m self, event: Event<'m>, out: &mut Orders<'m>) {
+        if let Some(order) = Bus::order(event) {
+            out.push(order);
         }
     }
 }
@@ -74,27 +100,27 @@ fn add(routes: &mut Routes, pattern: &str, protocol: &[u8]) -> Result<(), RouteF
 }
 
 /// Who comes into a room subscribes to it.
-fn opened<'m>(event: Event<'m>) -> Option<BusOrder<'m>>
-    ensures { option_map bus_order_value result ≡ order_on event.entry.route event.entry.conn.0 event.entry.param.now opened }
+fn opened<'m>(event: Event<'m>) -> Option<Order<'m>>
+    ensures { option_map order_value result ≡ order_on event.entry.route event.entry.conn.0 event.entry.param.now opened }
 {
     if event.route == ROOM_ROUTE {
-        return Some(BusOrder::Subscribe { topic: event.param });
+        return Some(Order::Subscribe { topic: event.param });
     }
     None
 }
 
 /// What a message orders.
-fn on_message<'m>(event: Event<'m>, kind: Kind, body: &'m [u8]) -> Option<BusOrder<'m>>
-    ensures { option_map bus_order_value result ≡ message_order event.entry.route event.entry.conn.0 event.entry.param.now kind body.now }
+fn on_message<'m>(event: Event<'m>, kind: Kind, body: &'m [u8]) -> Option<Order<'m>>
+    ensures { option_map order_value result ≡ message_order event.entry.route event.entry.conn.0 event.entry.param.now kind body.now }
 {
-    let back = BusOrder::Send {
+    let back = Order::Send {
         to: event.conn,
         kind,
         body,
     };
     match event.route {
         ECHO_ROUTE => Some(back),
-        ROOM_ROUTE => Some(BusOrder::Publish {
+        ROOM_ROUTE => Some(Order::Publish {
             topic: event.param,
             kind,
             body,

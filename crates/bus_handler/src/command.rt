@@ -1,35 +1,35 @@
 //! The messages of the bus that are commands.
 
 ghost use Rattle.std.specs.Prelude.{◌≡◌, ◌<◌, ◌+◌, drop, length, IfSome, option_map};
-ghost use Rattle.bus_handler.specs.Bus.{bus_order_value, commanded, published, space_in};
+ghost use Rattle.ws_kinds.specs.OrderValue.{order_value};
+ghost use Rattle.bus_handler.specs.Bus.{commanded, published, space_in};
 
-use crate::BusOrder;
-use ws_kinds::Kind;
+use ws_kinds::{Kind, Order};
 
 /// What a message of the bus orders by its first octet: `+` to subscribe to the topic that follows, `-` to end that, and `=` to
 /// publish. None where it is no command.
-pub(crate) fn command<'m>(kind: Kind, body: &'m [u8]) -> Option<BusOrder<'m>>
-    ensures { option_map bus_order_value result ≡ commanded kind body.now }
+pub(crate) fn command<'m>(kind: Kind, body: &'m [u8]) -> Option<Order<'m>>
+    ensures { option_map order_value result ≡ commanded kind body.now }
 {
     let Some((first, rest)) = body.split_first() else {
         return None;
     };
     match *first {
-        b'+' => Some(BusOrder::Subscribe { topic: rest }),
-        b'-' => Some(BusOrder::Unsubscribe { topic: rest }),
+        b'+' => Some(Order::Subscribe { topic: rest }),
+        b'-' => Some(Order::Unsubscribe { topic: rest }),
         b'=' => publication(kind, rest),
         _ => None,
     }
 }
 
 /// A topic, a space, and the body that is published to the topic. None without a space.
-fn publication<'m>(kind: Kind, octets: &'m [u8]) -> Option<BusOrder<'m>>
-    ensures { option_map bus_order_value result ≡ published kind octets.now }
+fn publication<'m>(kind: Kind, octets: &'m [u8]) -> Option<Order<'m>>
+    ensures { option_map order_value result ≡ published kind octets.now }
 {
     let Some(space) = first_space(octets) else {
         return None;
     };
-    Some(BusOrder::Publish {
+    Some(Order::Publish {
         topic: &octets[..space],
         kind,
         body: behind(octets, space),

@@ -3,10 +3,8 @@
 
 mod bus;
 mod command;
-mod order;
 
 pub use bus::Bus;
-pub use order::BusOrder;
 
 #[cfg(test)]
 mod tests;

@@ -1,6 +1,6 @@
 use super::*;
 use std::test::*;
-use ws_kinds::{Conn, Event, Kind, What};
+use ws_kinds::{Conn, Event, Kind, Order, What};
 
 /// An event of connection 9 on a route with the parameter `lobby`.
 fn event<'a>(route: u8, what: What<'a>) -> Event<'a> {
@@ -12,8 +12,8 @@ fn event<'a>(route: u8, what: What<'a>) -> Event<'a> {
     }
 }
 
-fn sent_back<'a>(kind: Kind, body: &'a [u8]) -> Option<BusOrder<'a>> {
-    Some(BusOrder::Send {
+fn sent_back<'a>(kind: Kind, body: &'a [u8]) -> Option<Order<'a>> {
+    Some(Order::Send {
         to: Conn(9),
         kind,
         body,
@@ -21,18 +21,18 @@ fn sent_back<'a>(kind: Kind, body: &'a [u8]) -> Option<BusOrder<'a>> {
 }
 
 /// Messages of the bus that are commands, with what they order.
-const COMMANDS: &[(&[u8], BusOrder<'_>)] = &[
-    (b"+t", BusOrder::Subscribe { topic: b"t" }),
-    (b"+", BusOrder::Subscribe { topic: b"" }),
+const COMMANDS: &[(&[u8], Order<'_>)] = &[
+    (b"+t", Order::Subscribe { topic: b"t" }),
+    (b"+", Order::Subscribe { topic: b"" }),
     (
         b"+two words",
-        BusOrder::Subscribe {
+        Order::Subscribe {
             topic: b"two words",
         },
     ),
-    (b"++", BusOrder::Subscribe { topic: b"+" }),
-    (b"-t", BusOrder::Unsubscribe { topic: b"t" }),
-    (b"-", BusOrder::Unsubscribe { topic: b"" }),
+    (b"++", Order::Subscribe { topic: b"+" }),
+    (b"-t", Order::Unsubscribe { topic: b"t" }),
+    (b"-", Order::Unsubscribe { topic: b"" }),
 ];
 
 /// Messages of the bus that publish, with the topic and the body.
@@ -62,7 +62,7 @@ const OTHERS: &[&[u8]] = &[
 const KINDS: [Kind; 2] = [Kind::Text, Kind::Binary];
 
 /// The place of the first command that is answered otherwise.
-fn first_other_command(kind: Kind, rows: &[(&[u8], BusOrder<'_>)]) -> Option<usize> {
+fn first_other_command(kind: Kind, rows: &[(&[u8], Order<'_>)]) -> Option<usize> {
     for (place, (body, order)) in rows.iter().enumerate() {
         if Bus::order(event(2, What::Message { kind, body: *body })) != Some(*order) {
             return Some(place);
@@ -74,7 +74,7 @@ fn first_other_command(kind: Kind, rows: &[(&[u8], BusOrder<'_>)]) -> Option<usi
 /// The place of the first publication that is answered otherwise.
 fn first_other_publication(kind: Kind, rows: &[(&[u8], &[u8], &[u8])]) -> Option<usize> {
     for (place, (octets, topic, body)) in rows.iter().enumerate() {
-        let wanted = BusOrder::Publish {
+        let wanted = Order::Publish {
             topic: *topic,
             kind,
             body: *body,
@@ -114,13 +114,9 @@ fn a_message_of_the_bus(rt: HostRuntime) {
 }
 
 /// Events with the route and the order that answers.
-const EVENTS: &[(u8, What<'_>, Option<BusOrder<'_>>)] = &[
+const EVENTS: &[(u8, What<'_>, Option<Order<'_>>)] = &[
     (0, What::Opened, None),
-    (
-        1,
-        What::Opened,
-        Some(BusOrder::Subscribe { topic: b"lobby" }),
-    ),
+    (1, What::Opened, Some(Order::Subscribe { topic: b"lobby" })),
     (2, What::Opened, None),
     (3, What::Opened, None),
     (
@@ -129,7 +125,7 @@ const EVENTS: &[(u8, What<'_>, Option<BusOrder<'_>>)] = &[
             kind: Kind::Text,
             body: b"+t",
         },
-        Some(BusOrder::Send {
+        Some(Order::Send {
             to: Conn(9),
             kind: Kind::Text,
             body: b"+t",
@@ -141,7 +137,7 @@ const EVENTS: &[(u8, What<'_>, Option<BusOrder<'_>>)] = &[
             kind: Kind::Binary,
             body: b"+t",
         },
-        Some(BusOrder::Publish {
+        Some(Order::Publish {
             topic: b"lobby",
             kind: Kind::Binary,
             body: b"+t",
@@ -174,7 +170,7 @@ const EVENTS: &[(u8, What<'_>, Option<BusOrder<'_>>)] = &[
 ];
 
 /// The place of the first event that is answered otherwise.
-fn first_other(rows: &[(u8, What<'_>, Option<BusOrder<'_>>)]) -> Option<usize> {
+fn first_other(rows: &[(u8, What<'_>, Option<Order<'_>>)]) -> Option<usize> {
     for (place, (route, what, order)) in rows.iter().enumerate() {
         if Bus::order(event(*route, *what)) != *order {
             return Some(place);

@@ -1,9 +1,10 @@
 -- What calls of a hub do, put together from what they do to the hub's state, to the watch and to the net.
-use Rattle.hub_core.proofs.Below.{◌≡◌, ◌≢◌, ◌<◌, ◌≤◌, inl, inr, ℕ, List, [], ◌∷◌, ◌++◌, Option, Some, None, Bool, true, false, cond, not, is_some, ◌==◌, IsTrue, nat_eq, length, refl, sym, ap, ◌∙◌, subst, arith, nat_tests, Kind, Text, Binary, Why, Phase, Head, Open, Leaving, Ending, Gone, NoteValue, IsNoted, NetState, Opcode, Begins, opcode_number, Item, is_sent_opcode, is_of, is_open, topics_left, Tell, marked, nothing_told, tell_by, QuietCount, new_count, one_heard, is_reading, is_silent, is_dropped, ShortWhereHeld, HubState, Entry, PartingValue, Server, server, entry_at, no_entry, new_entry, is_gone, has_entry, entry_of, is_present, phase_at, cork_at, pending_at, ring_at, Held, held_at, KeepsLine, Starts, nothing, only, served, Ties, entry_added, entry_new, line_gone, line_still, starts_of, lines_elsewhere_then, Progress, due_of, due_at, topics_at, progress_at, progress_by, may_come, tell_at, CountsBy, counts_at, leaves_at, unless_gone, KeepsFront, Appends, by_cases, clash, or_left, or_right, of_here, of_other, same_counts, proceeds_then, proceeds_first, appends_same, appends_as, appends_after_nothing, TableState, ChangesOne, IsTable, is_kept, TakesDue, table_of, Taken, Arrives, Makes, has_frames, IsSent, Puttable, Kept, ChangesHub, Ends, Notes, Sends, Puts, hub_of, falsely, truly}
+use Rattle.hub_core.proofs.Below.{◌≡◌, ◌≢◌, ◌<◌, ◌≤◌, inl, inr, ℕ, List, [], ◌∷◌, ◌++◌, Option, Some, None, Bool, true, false, cond, not, is_some, IsTrue, nat_eq, length, refl, sym, ap, ◌∙◌, subst, arith, nat_tests, Kind, Text, Binary, Why, Phase, Head, Open, Leaving, Ending, Gone, NoteValue, IsNoted, NetState, Opcode, Begins, opcode_number, Item, is_sent_opcode, is_of, is_open, topics_left, Tell, marked, nothing_told, tell_by, QuietCount, new_count, one_heard, is_reading, is_silent, is_dropped, ShortWhereHeld, HubState, Entry, PartingValue, Server, server, entry_at, no_entry, new_entry, is_gone, has_entry, entry_of, is_present, phase_at, cork_at, pending_at, ring_at, Held, held_at, KeepsLine, Starts, nothing, only, served, Ties, entry_added, entry_new, line_gone, line_still, starts_of, lines_elsewhere_then, Progress, due_of, due_at, topics_at, progress_at, progress_by, may_come, tell_at, CountsBy, counts_at, leaves_at, unless_gone, KeepsFront, Appends, by_cases, clash, or_left, or_right, of_here, of_other, same_counts, proceeds_then, proceeds_first, appends_same, appends_as, appends_after_nothing, TableState, ChangesOne, IsTable, is_kept, TakesDue, table_of, Taken, Arrives, Makes, has_frames, IsSent, Puttable, Kept, ChangesHub, Ends, Notes, Sends, Puts, hub_of, falsely, truly, topics_of, IsHub, none_of}
 use Rattle.ws_kinds.specs.NoteValue as note
 use Rattle.hub_core.proofs.HubSteps.{Enters}
-use Rattle.hub_core.proofs.StateLemmas.{progress_of, plain_change, change_named}
-use Rattle.hub_core.proofs.NoteLemmas.{is_inner, NotesOne, Notices, notices_none, notices_entered, advances_noted, fails_noted, appends_noted, notes_none, notes_entered, Still, StillOrNew, still_of, still_same, items_still, same_or_not}
+use Rattle.hub_core.proofs.StateLemmas.{progress_of, table_change, change_named, hub_changed}
+use Rattle.hub_core.proofs.NoteLemmas.{is_inner, NotesOne, Notices, notices_none, notices_entered, advances_noted, fails_noted, appends_noted, notes_none, notes_entered, Still, StillOrNew, still_of, still_same, items_still}
+use Rattle.hub_core.proofs.StateLemmas.{same_or_not}
 
 -- ---- numbers that notes name
 
@@ -146,17 +147,18 @@ counts_given hub c n none d there = (inl there, one (nat_eq c d) (leaves_at hub 
 
 -- ---- a connection that goes on to another phase
 
--- as long as only the table is filled
-pub plain_enters : (c : ℕ) (n : NoteValue) (phase : Phase) (a b : TableState) → ChangesOne c a b → entry_of b.entries c ≡ record (entry_of a.entries c) { phase = phase }
-    → progress_at (hub_of b) c ≡ progress_by n (progress_at (hub_of a) c) → tell_by c n nothing_told ≡ nothing_told → Enters c n phase (hub_of a) (hub_of b)
-plain_enters c n phase a b change entry progress untold = record { entry = entry; cork = refl; pending = refl; progress = progress; tells = sym untold; change = plain_change c a b change }
+-- as long as the table and the topics alone are filled
+pub plain_enters : (c : ℕ) (n : NoteValue) (phase : Phase) (a b : TableState) (p : List (ℕ × List ℕ)) → ChangesOne c a b → entry_of b.entries c ≡ record (entry_of a.entries c) { phase = phase }
+    → progress_at (hub_of b p) c ≡ progress_by n (progress_at (hub_of a p) c) → tell_by c n nothing_told ≡ nothing_told → Enters c n phase (hub_of a p) (hub_of b p)
+plain_enters c n phase a b p change entry progress untold = record { entry = entry; cork = refl; pending = refl; progress = progress; tells = sym untold; change = table_change p change }
 
 -- a request that is admitted or refused
-pub head_progress : (c : ℕ) (n : NoteValue) (phase : Phase) (a b : TableState) → (entry_of a.entries c).phase ≡ Head → entry_of b.entries c ≡ record (entry_of a.entries c) { phase = phase } → due_of b.partings c ≡ due_of a.partings c
-    → ((due : Option (ℕ × List ℕ)) → progress_of phase [] due ≡ progress_by n (progress_of Head [] due)) → progress_at (hub_of b) c ≡ progress_by n (progress_at (hub_of a) c)
-head_progress c n phase a b was entry due step =
-    ap (λ (z : Entry). progress_of z.phase [] (due_of b.partings c)) entry ∙ ap (progress_of phase []) due ∙ step (due_of a.partings c)
-    ∙ ap (λ (z : Phase). progress_by n (progress_of z [] (due_of a.partings c))) (sym was)
+pub head_progress : (c : ℕ) (n : NoteValue) (phase : Phase) (a b : TableState) (p : List (ℕ × List ℕ)) → (entry_of a.entries c).phase ≡ Head → topics_of p c ≡ [] → entry_of b.entries c ≡ record (entry_of a.entries c) { phase = phase }
+    → due_of b.partings c ≡ due_of a.partings c → ((due : Option (ℕ × List ℕ)) → progress_of phase [] due ≡ progress_by n (progress_of Head [] due)) → progress_at (hub_of b p) c ≡ progress_by n (progress_at (hub_of a p) c)
+head_progress c n phase a b p was none entry due step =
+    ap (λ (z : Entry). progress_of z.phase (topics_of p c) (due_of b.partings c)) entry ∙ ap (λ (z : List (List ℕ)). progress_of phase z (due_of b.partings c)) none ∙ ap (progress_of phase []) due
+    ∙ step (due_of a.partings c) ∙ ap (λ (z : Phase). progress_by n (progress_of z [] (due_of a.partings c))) (sym was)
+    ∙ ap (λ (z : List (List ℕ)). progress_by n (progress_of (entry_of a.entries c).phase z (due_of a.partings c))) (sym none)
 
 marked_none : (b : Bool) → cond b (marked nothing_told) nothing_told ≡ nothing_told
 marked_none true = refl
@@ -168,14 +170,16 @@ opened_untold c route param = marked_none (nat_eq c c)
 pub opened_elsewhere : (c route : ℕ) (param : List ℕ) (d : ℕ) → d ≢ c → (t : Tell) → tell_by d (note.opened c route param) t ≡ t
 opened_elsewhere c route param d ne t = ap (λ (z : Bool). cond z (marked t) t) (of_other c d ne)
 
--- the note of a request's answer, as long as only the table is filled
-pub head_notices : (c : ℕ) (n : NoteValue) (phase : Phase) (a b : TableState) (net : NetState) (t t' : Option (List NoteValue)) → phase_at (hub_of a) c ≡ Some Head → entry_of b.entries c ≡ record (entry_of a.entries c) { phase = phase }
+-- the note of a request's answer, as long as the table and the topics alone are filled
+pub head_notices : (c : ℕ) (n : NoteValue) (phase : Phase) (a b : TableState) (p : List (ℕ × List ℕ)) (net : NetState) (t t' : Option (List NoteValue)) → IsHub a p → phase_at (hub_of a p) c ≡ Some Head
+    → entry_of b.entries c ≡ record (entry_of a.entries c) { phase = phase }
     → due_of b.partings c ≡ due_of a.partings c → ChangesOne c a b → IsNoted t n t' → is_gone phase ≡ false → ((due : Option (ℕ × List ℕ)) → progress_of phase [] due ≡ progress_by n (progress_of Head [] due)) → may_come (Some Head) n ≡ true
     → is_inner n ≡ true → ((d : ℕ) → is_silent d n ≡ true) → is_of c n ≡ true → ((d : ℕ) → d ≢ c → is_of d n ≡ false) → tell_by c n nothing_told ≡ nothing_told → ((d : ℕ) → d ≢ c → (u : Tell) → tell_by d n u ≡ u)
-    → Notices c n (server (hub_of a) net t) (server (hub_of b) net t')
-head_notices c n phase a b net t t' head entry due change told there step may inner silent own others untold elsewhere =
-    let was : (entry_of a.entries c).phase ≡ Head = phase_known (hub_of a) c Head head in
-    let e : Enters c n phase (hub_of a) (hub_of b) = plain_enters c n phase a b change entry (head_progress c n phase a b was entry due step) untold in
+    → Notices c n (server (hub_of a p) net t) (server (hub_of b p) net t')
+head_notices c n phase a b p net t t' whole head entry due change told there step may inner silent own others untold elsewhere =
+    let was : (entry_of a.entries c).phase ≡ Head = phase_known (hub_of a p) c Head head in
+    let none : topics_of p c ≡ [] = whole.topics c (ap (λ (z : Phase). is_open (Some z)) was) in
+    let e : Enters c n phase (hub_of a p) (hub_of b p) = plain_enters c n phase a b p change entry (head_progress c n phase a b p was none entry due step) untold in
     let gone : is_gone phase ≡ is_gone (entry_of a.entries c).phase = there ∙ sym (ap is_gone was) in
     notices_entered e net t t' told inner silent (notes_entered e others own (ap (λ (z : Phase). may_come (unless_gone (Some z)) n) was ∙ may) elsewhere gone) gone
 
@@ -260,6 +264,10 @@ none_due : (due : Option (ℕ × List ℕ)) → is_some due ≡ false → due �
 none_due None e = refl
 none_due (Some x) e = clash true e refl
 
+-- a number above all that were accepted
+unnamed : (a : TableState) (c : ℕ) → IsTable a → a.named < c → has_entry a.entries c ≡ false
+unnamed a c table above = by_cases (has_entry a.entries c) (λ has. absurd (let h = table.named c has in omega arith)) (λ e. e)
+
 -- a connection with a greater number than all before comes; nothing is kept for its number
 pub record IsNext (a : HubState) (c : ℕ) : Type 0 where
   pub table : IsTable (table_of a)
@@ -270,7 +278,7 @@ pub record IsNext (a : HubState) (c : ℕ) : Type 0 where
 
 module _ {a : HubState} {c : ℕ} (x : IsNext a c) where
   absent : has_entry a.entries c ≡ false
-  absent = by_cases (has_entry a.entries c) (λ has. absurd (let h = x.table.named c has in let k = x.above in omega arith)) (λ e. e)
+  absent = unnamed (table_of a) c x.table x.above
 
   -- where there is no entry, the connection has no phase, no topics and no Closed event
   absent_progress : progress_at a c ≡ record { phase = None; topics = []; due = None }
@@ -365,9 +373,20 @@ makes_none {a} {c} x n net t t' others may still untold inner told =
       fails = fails_noted n net inner;
     }
 
--- as long as only the table is filled
-pub plain_next : (a : TableState) (c : ℕ) → IsTable a → a.named < c → IsNext (hub_of a) c
-plain_next a c table above = record { table = table; above = above; topics = refl; cork = refl; pending = refl }
+-- as long as the table and the topics alone are filled
+pub plain_next : (a : TableState) (p : List (ℕ × List ℕ)) (c : ℕ) → IsHub a p → a.named < c → IsNext (hub_of a p) c
+plain_next a p c whole above = record {
+  table = whole.table;
+  above = above;
+  topics = whole.topics c (ap (λ (z : Entry). is_open (Some z.phase)) (none_of a.entries c (unnamed a c whole.table above)));
+  cork = refl;
+  pending = refl;
+}
+
+-- who was accepted has no topics yet
+pub hub_accepted : (a b : TableState) (p : List (ℕ × List ℕ)) (c : ℕ) → IsHub a p → a.named < c → b ≡ record a { named = c; entries = a.entries ++ new_entry a.config c ∷ [] } → IsTable b → IsHub b p
+hub_accepted a b p c was above same table = hub_changed was table (λ x ne. ap (λ (z : TableState). entry_of z.entries x) same ∙ entry_added a.entries (new_entry a.config c) x ne) (λ x ne. refl)
+    (λ off. (plain_next a p c was above).topics)
 
 -- ---- a Closed event that is handed out
 
@@ -435,17 +454,36 @@ module _ {c : ℕ} {a b : HubState} (f : Forgets c a b) where
     waits = λ w d there some. w d (ap not (was_there d there)) (λ none. some (ring_as d there ∙ none));
   }
 
--- as long as only the table is filled
-plain_forgets : (c : ℕ) (a b : TableState) → entry_of b.entries c ≡ cond (is_gone (entry_of a.entries c).phase) no_entry (entry_of a.entries c) → ChangesOne c a b → Forgets c (hub_of a) (hub_of b)
-plain_forgets c a b entry change = record { entry = entry; cork = refl; pending = refl; change = plain_change c a b change }
+-- as long as the table and the topics alone are filled
+plain_forgets : (c : ℕ) (a b : TableState) (p : List (ℕ × List ℕ)) → entry_of b.entries c ≡ cond (is_gone (entry_of a.entries c).phase) no_entry (entry_of a.entries c) → ChangesOne c a b → Forgets c (hub_of a p) (hub_of b p)
+plain_forgets c a b p entry change = record { entry = entry; cork = refl; pending = refl; change = table_change p change }
 
-pub appends_taken : (o : Option PartingValue) (a b : TableState) (net : NetState) (t : Option (List NoteValue)) → TakesDue o a b → Appends nothing (server (hub_of a) net t) (server (hub_of b) net t)
-appends_taken None a b net t takes = subst (λ (z : TableState). Appends nothing (server (hub_of a) net t) (server (hub_of z) net t)) (sym takes.0) (appends_same (server (hub_of a) net t))
-appends_taken (Some parting) a b net t takes = appends_forgotten (plain_forgets parting.conn a b takes.3 takes.4) net t
+pub appends_taken : (o : Option PartingValue) (a b : TableState) (p : List (ℕ × List ℕ)) (net : NetState) (t : Option (List NoteValue)) → TakesDue o a b → Appends nothing (server (hub_of a p) net t) (server (hub_of b p) net t)
+appends_taken None a b p net t takes = subst (λ (z : TableState). Appends nothing (server (hub_of a p) net t) (server (hub_of z p) net t)) (sym takes.0) (appends_same (server (hub_of a p) net t))
+appends_taken (Some parting) a b p net t takes = appends_forgotten (plain_forgets parting.conn a b p takes.3 takes.4) net t
 
-pub ties_taken : (o : Option PartingValue) (a b : TableState) (net : NetState) (t : Option (List NoteValue)) → TakesDue o a b → Ties (server (hub_of a) net t) → Ties (server (hub_of b) net t)
-ties_taken None a b net t takes ties = subst (λ (z : TableState). Ties (server (hub_of z) net t)) (sym takes.0) ties
-ties_taken (Some parting) a b net t takes ties = ties_forgotten (plain_forgets parting.conn a b takes.3 takes.4) net t ties
+pub ties_taken : (o : Option PartingValue) (a b : TableState) (p : List (ℕ × List ℕ)) (net : NetState) (t : Option (List NoteValue)) → TakesDue o a b → Ties (server (hub_of a p) net t) → Ties (server (hub_of b p) net t)
+ties_taken None a b p net t takes ties = subst (λ (z : TableState). Ties (server (hub_of z p) net t)) (sym takes.0) ties
+ties_taken (Some parting) a b p net t takes ties = ties_forgotten (plain_forgets parting.conn a b p takes.3 takes.4) net t ties
+
+-- a Closed event leaves who is open
+pub hub_taken : (o : Option PartingValue) (a b : TableState) (p : List (ℕ × List ℕ)) → TakesDue o a b → IsTable b → IsHub a p → IsHub b p
+hub_taken None a b p takes table was = subst (λ (z : TableState). IsHub z p) (sym takes.0) was
+hub_taken (Some parting) a b p takes table was = hub_changed was table takes.4.entries (λ x ne. refl) (λ off. was.topics parting.conn (one (entry_of a.entries parting.conn) (ap (λ (z : Entry). is_open (Some z.phase)) (sym takes.3) ∙ off)))
+  where
+    one : (entry : Entry) → is_open (Some (cond (is_gone entry.phase) no_entry entry).phase) ≡ false → is_open (Some entry.phase) ≡ false
+    one entry off = by_phase (is_gone entry.phase) refl off
+      where
+        by_phase : (gone : Bool) → is_gone entry.phase ≡ gone → is_open (Some (cond gone no_entry entry).phase) ≡ false → is_open (Some entry.phase) ≡ false
+        by_phase true e _ = not_open entry.phase e
+          where
+            not_open : (phase : Phase) → is_gone phase ≡ true → is_open (Some phase) ≡ false
+            not_open Gone e = refl
+            not_open Head e = clash false refl e
+            not_open Open e = clash false refl e
+            not_open Leaving e = clash false refl e
+            not_open Ending e = clash false refl e
+        by_phase false e off = off
 
 -- ---- frames that are put
 

@@ -1,5 +1,5 @@
 -- What it leaves of a hub that an item is put for a connection whose link fails: it is gone.
-use Rattle.hub_core.proofs.Below.{◌≡◌, ◌≢◌, ◌<◌, ◌≤◌, ◌+◌, ◌^◌, ◌-◌, ◌⊎◌, inl, inr, ℕ, List, [], ◌∷◌, ◌++◌, length, Bool, true, false, nat_eq, ◌&&◌, ◌||◌, refl, sym, ap, ◌∙◌, subst, append-nil, arith, ⊎_elim, cases_eq, nat_tests, LinkFailed, NoteValue, CountsFault, number_of, is_gone_by_in, taken_of, Server, entry_at, numbered_at, ring_at, cork_at, pending_at, is_gone, is_present, Stands, StandsFor, buffered_at, with_pending, Beside, Ties, SameLinesElsewhere, ShortRings, only, stands_point, keeps_only, beside_then, line_gone, only_here, only_other, lines_elsewhere_then, is_link_failure, RoseBy, FailsAfter, TakesFront, FailsWithin, KeepsFront, KeepsFronts, Advances, Proceeds, Appends, clash, or_none, same_number, other_number, outgoing_both, advances_then, front_then, IsSent, Failed, PutsItem, Leaves}
+use Rattle.hub_core.proofs.Below.{◌≡◌, ◌≢◌, ◌<◌, ◌≤◌, ◌+◌, ◌^◌, ◌-◌, ◌⊎◌, inl, inr, ℕ, List, [], ◌∷◌, ◌++◌, length, Bool, true, false, nat_eq, ◌&&◌, ◌||◌, refl, sym, ap, ◌∙◌, subst, append-nil, arith, ⊎_elim, cases_eq, LinkFailed, NoteValue, CountsFault, number_of, is_gone_by_in, taken_of, Server, entry_at, numbered_at, ring_at, cork_at, pending_at, is_gone, is_present, Stands, StandsFor, buffered_at, with_pending, Beside, Ties, SameLinesElsewhere, ShortRings, only, stands_point, keeps_only, beside_then, line_gone, only_here, only_other, lines_elsewhere_then, is_link_failure, RoseBy, FailsAfter, TakesFront, FailsWithin, KeepsFront, KeepsFronts, Advances, Proceeds, Appends, clash, or_none, same_number, other_number, outgoing_both, advances_then, front_then, IsSent, Failed, PutsItem, Leaves}
 use Rattle.ws_kinds.specs.NoteValue as note
 use Rattle.wire_meaning.specs.Answer as answer
 use Rattle.socket_core.specs.declared.item.Item.{Item}

@@ -1,5 +1,5 @@
 -- What it leaves of a hub that a connection becomes gone.
-use Rattle.hub_core.proofs.Below.{◌≤◌, ◌≡◌, ◌≢◌, ◌<◌, ◌+◌, ◌^◌, ◌-◌, inl, ℕ, List, [], ◌∷◌, ◌++◌, Option, Some, None, Bool, true, false, cond, nat_eq, not, ◌&&◌, ◌||◌, length, refl, sym, ap, ◌∙◌, subst, append-nil, arith, ⊎_elim, cases_eq, nat_tests, Left, PeerEnd, LinkFailed, Idle, Finished, Phase, Head, Open, Leaving, Ending, Gone, NoteValue, NetState, Item, is_gone_in, is_left, taken_of, is_dropped, ShortWhereHeld, Entry, Server, entry_at, numbered_at, ring_at, pending_at, is_gone, is_present, Held, held_at, held_octets, Stands, StandsFor, IsCounted, Others, Beside, Ties, SameElsewhere, SameLinesElsewhere, ShortRings, nothing, kept_same, taken_shut, others_shut, keeps_of, line_gone, ties_shut, AreNoted, TrafficAfter, NetAfter, RoseBy, FailsAfter, TakesFront, TakesAll, SameDrops, KeepsFront, KeepsFronts, RingsWait, items_at, unless_gone, progress_at, progress_by, progress_after_all, may_come, may_all_come, may_leave_by, due_at, topics_at, Advances, Appends, clash, or_false, same_number, other_number, told_one, IsTable, table_of, due_when_gone, tell_at, SameCounts, nothing_told, tell_by_all, topics_left, leaves_open, Leaves, Goes, Notes, LosesLink}
+use Rattle.hub_core.proofs.Below.{◌≤◌, ◌≡◌, ◌≢◌, ◌<◌, ◌+◌, ◌^◌, ◌-◌, inl, ℕ, List, [], ◌∷◌, ◌++◌, Option, Some, None, Bool, true, false, cond, nat_eq, not, ◌&&◌, ◌||◌, length, refl, sym, ap, ◌∙◌, subst, append-nil, arith, ⊎_elim, cases_eq, Left, PeerEnd, LinkFailed, Idle, Finished, Phase, Head, Open, Leaving, Ending, Gone, NoteValue, NetState, Item, is_gone_in, is_left, taken_of, is_dropped, ShortWhereHeld, Entry, Server, entry_at, numbered_at, ring_at, pending_at, is_gone, is_present, Held, held_at, held_octets, Stands, StandsFor, IsCounted, Others, Beside, Ties, SameElsewhere, SameLinesElsewhere, ShortRings, nothing, kept_same, taken_shut, others_shut, keeps_of, line_gone, ties_shut, AreNoted, TrafficAfter, NetAfter, RoseBy, FailsAfter, TakesFront, TakesAll, SameDrops, KeepsFront, KeepsFronts, RingsWait, items_at, unless_gone, progress_at, progress_by, progress_after_all, may_come, may_all_come, may_leave_by, due_at, topics_at, Advances, Appends, clash, or_false, same_number, other_number, told_one, IsTable, table_of, due_when_gone, tell_at, SameCounts, nothing_told, tell_by_all, topics_left, Leaves, Goes, Notes, LosesLink, is_open}
 use Rattle.ws_kinds.specs.NoteValue as note
 use Rattle.hub_core.proofs.SentLemmas.{progress_with, short_still}
 use Rattle.hub_core.proofs.StateLemmas.{progress_of, is_away, is_there, change_present, change_progress, change_elsewhere, entry_kept, beside_change, lines_elsewhere, told_before, drops_same, front_still}
@@ -291,16 +291,13 @@ module _ {c : ℕ} {left : Left} {a b : Server} (l : Leaves c left a b) where
     table = is;
   }
 
--- a connection that is not open has no topics
-pub no_topics : (from to : Option Phase) → [] ≡ topics_left from to []
-no_topics from to = one (leaves_open from to)
-  where
-    no_list : List (List ℕ)
-    no_list = []
-
-    one : (b : Bool) → no_list ≡ cond b no_list no_list
-    one true = refl
-    one false = refl
+-- a connection that is not open has no topics, and one that becomes gone has none afterwards
+pub topics_end : (phase : Phase) (topics : List (List ℕ)) → (is_open (Some phase) ≡ false → topics ≡ []) → [] ≡ topics_left (Some phase) (Some Gone) topics
+topics_end Open topics none = refl
+topics_end Head topics none = sym (none refl)
+topics_end Leaving topics none = sym (none refl)
+topics_end Ending topics none = sym (none refl)
+topics_end Gone topics none = sym (none refl)
 
 pub goes_notes : {c : ℕ} {left : Left} {a b : Server} → Goes c left a b → is_left Finished left ≡ false → is_left LinkFailed left ≡ false → Ties a → Notes c (note.gone c left ∷ []) a b
 goes_notes {c} {left} {a} g other quiet ties = record {

@@ -9,5 +9,9 @@ pub mod NoteLemmas
 pub mod CallLemmas
 pub mod TurnLemmas
 pub mod OrderLemmas
+pub mod StandLemmas
+pub mod SubscribeLemmas
+pub mod CountLemmas
+pub mod PublishLemmas
 pub mod Below
 pub mod All

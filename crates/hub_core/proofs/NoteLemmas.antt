@@ -1,8 +1,8 @@
 -- A note that says nothing of what was sent, beside a hub in which it changes one connection or none.
-use Rattle.hub_core.proofs.Below.{◌≡◌, ◌≢◌, ◌<◌, ◌≤◌, ◌+◌, ◌⊎◌, inl, inr, ℕ, List, [], ◌∷◌, ◌++◌, Option, Bool, true, false, cond, not, ◌&&◌, ◌||◌, nat_eq, length, refl, sym, ap, ◌∙◌, subst, append-nil, arith, nat_tests, LinkFailed, Phase, NoteValue, IsNoted, NetState, is_of, writes, taken, number_of, is_gone_in, is_gone_by_in, Tell, tell_by, is_silent, is_dropped, taken_of, ShortWhereHeld, HubState, Entry, Server, server, is_gone, entry_at, is_present, ring_at, cork_at, pending_at, Held, held_at, KeepsLine, SameLinesElsewhere, Ties, nothing, is_dropped_more, stands_silent, fair_silent, silent_drops, line_still, held_same, short_silent, split_told, is_link_failure, Progress, progress_at, progress_by, progress_after, may_come, may_all_come, TellsBy, tell_at, CountsBeside, SameCounts, counts_at, count_of, NetAfter, FailsAfter, RoseBy, KeepsFront, SameDrops, items_at, Advances, Appends, by_cases, clash, and_true, or_false, zero_more, plus_none, told_one, same_counts, ChangesHub, after_own, after_other, falsely, truly}
+use Rattle.hub_core.proofs.Below.{◌≡◌, ◌≢◌, ◌<◌, ◌≤◌, ◌+◌, ◌⊎◌, inl, inr, ℕ, List, [], ◌∷◌, ◌++◌, Option, Bool, true, false, cond, not, ◌&&◌, ◌||◌, length, refl, sym, ap, ◌∙◌, subst, append-nil, arith, LinkFailed, Phase, NoteValue, IsNoted, NetState, is_of, writes, taken, number_of, is_gone_in, is_gone_by_in, Tell, tell_by, is_silent, is_dropped, taken_of, ShortWhereHeld, HubState, Entry, Server, server, is_gone, entry_at, is_present, ring_at, cork_at, pending_at, Held, held_at, KeepsLine, SameLinesElsewhere, Ties, nothing, is_dropped_more, stands_silent, fair_silent, silent_drops, line_still, held_same, short_silent, split_told, is_link_failure, Progress, progress_at, progress_by, progress_after, may_come, may_all_come, TellsBy, tell_at, CountsBeside, SameCounts, counts_at, count_of, NetAfter, FailsAfter, RoseBy, KeepsFront, SameDrops, items_at, Advances, Appends, by_cases, clash, and_true, or_false, zero_more, plus_none, told_one, same_counts, ChangesHub, after_own, after_other, falsely, truly}
 use Rattle.ws_kinds.specs.NoteValue as note
 use Rattle.hub_core.proofs.HubSteps.{Enters}
-use Rattle.hub_core.proofs.StateLemmas.{change_present, change_progress, change_named, lines_elsewhere}
+use Rattle.hub_core.proofs.StateLemmas.{same_or_not, change_present, change_progress, change_named, lines_elsewhere}
 
 -- ---- what such a note leaves of the net
 
@@ -74,9 +74,6 @@ pub record NotesOne (c : ℕ) (n : NoteValue) (old new : HubState) : Type 0 wher
   pub elsewhere : (d : ℕ) → d ≢ c → progress_at new d ≡ progress_at old d
   pub tells : TellsBy (n ∷ []) old new
   pub counts : CountsBeside (n ∷ []) old new
-
-pub same_or_not : {A : Type 0} (c d : ℕ) → (d ≡ c → A) → (d ≢ c → A) → A
-same_or_not c d yes_ no_ = by_cases (nat_eq d c) (λ e. yes_ (grind (arith, nat_tests))) (λ e. no_ (λ same. clash (nat_eq d c) e (grind (arith, nat_tests))))
 
 pub advances_noted : (c : ℕ) (n : NoteValue) (old new : HubState) (net : NetState) (t t' : Option (List NoteValue)) → IsNoted t n t' → is_inner n ≡ true → NotesOne c n old new
     → Advances (n ∷ []) (server old net t) (server new net t')

@@ -1,7 +1,6 @@
 -- Orders that are served or refused.
-use Rattle.hub_core.proofs.Below.{◌≡◌, ◌+◌, ◌<◌, ℕ, List, [], ◌∷◌, ◌++◌, Option, Some, None, Bool, true, false, cond, nat_eq, length, take, get_or, refl, sym, ap, ◌∙◌, subst, arith, nat_tests, take-suc, length-take-le, length-map, map-append, Kind, Phase, Head, Open, Leaving, Ending, Gone, Why, ConfigValue, NoteValue, IsNoted, send, data_frame, unless_gone, why_send, every_topic, HubState, Server, server, phase_at, has_entry, entry_at, only, nothing, standings_at, Proceeds, Appends, Serves, does_notes, TopicsEnd, refused, sent}
+use Rattle.hub_core.proofs.Below.{◌≡◌, ℕ, List, [], ◌∷◌, ◌++◌, Option, Some, None, Bool, true, false, cond, nat_eq, refl, sym, ap, ◌∙◌, subst, Kind, Phase, Head, Open, Leaving, Ending, Gone, Why, ConfigValue, NoteValue, IsNoted, unless_gone, why_send, every_topic, HubState, Server, server, phase_at, has_entry, entry_at, nothing, standings_at, Serves, does_notes, TopicsEnd, none_of, OrderValue, publish, NetState, is_open, why_at, why_publish, needs_memory, by_note, MayRefuse, for_reason, refuses, entry_of, Ties, published, served_by, obeys_same, Publishes, IsTable, TableState, table_of, IsHub, hub_of, NotesUnserved, ServesOrder}
 use Rattle.ws_kinds.specs.NoteValue as note
-use Rattle.hub_lines.proofs.EntryLemmas.{none_of}
 use Rattle.hub_core.proofs.NoteLemmas.{Notices, notices_none}
 use Rattle.hub_core.proofs.CallLemmas.{notes_unserved}
 
@@ -28,19 +27,47 @@ either_way : (b : Bool) → nothing 0 ≡ cond b (nothing 0) (nothing 0) ++ []
 either_way true = refl
 either_way false = refl
 
--- a message that is not sent is noted, and nothing else happens
-pub serves_refused : (from number to : ℕ) (kind : Kind) (body : List ℕ) (reason : Why) (old mid : Server) (t : Option (List NoteValue)) → mid ≡ old → Some reason ≡ why_send old.hub.config (phase_at old.hub to) kind body
-    → IsNoted mid.told (note.unserved from number reason) t → Serves old.hub.config every_topic from number (send to kind body) old (server mid.hub mid.net t)
-serves_refused from number to kind body reason old mid t same why told =
-    let x : Notices from (note.unserved from number reason) mid (server mid.hub mid.net t) =
-    notices_none from (note.unserved from number reason) mid.hub mid.net mid.told t told refl (λ d. refl) (notes_unserved mid.hub from number reason) in
-    let why_mid : Some reason ≡ why_send mid.hub.config (phase_at mid.hub to) kind body = subst (λ (z : Server). Some reason ≡ why_send z.hub.config (phase_at z.hub to) kind body) (sym same) why in
-    subst (λ (z : Server). Serves z.hub.config every_topic from number (send to kind body) z (server mid.hub mid.net t)) same
-    (refused mid.hub.config every_topic from number mid (server mid.hub mid.net t) (send to kind body) reason (sym (why_shown mid.hub.config mid.hub to kind body) ∙ sym why_mid)
-    (λ texts. does_notes texts (note.unserved from number reason ∷ []) nothing mid (server mid.hub mid.net t) x.advances x.fails x.appends (λ c. either_way (nat_eq from c))))
+-- an order that is not served is noted, and nothing else happens
+pub unserved_noted : (from number : ℕ) (why : Why) (hub : HubState) (net : NetState) (t t' : Option (List NoteValue)) → IsNoted t (note.unserved from number why) t' → Ties (server hub net t)
+    → NotesUnserved from number why (server hub net t) (server hub net t')
+unserved_noted from number why hub net t t' told ties =
+    let x : Notices from (note.unserved from number why) (server hub net t) (server hub net t') = notices_none from (note.unserved from number why) hub net t t' told refl (λ d. refl) (notes_unserved hub from number why) in
+    record {
+      hub = refl;
+      ties = ties;
+      does = λ texts. does_notes texts (note.unserved from number why ∷ []) nothing (server hub net t) (server hub net t') x.advances x.fails x.appends (λ c. either_way (nat_eq from c));
+    }
 
--- a message that is sent
-pub serves_sent : (from number to : ℕ) (kind : Kind) (body : List ℕ) (old new : Server) → None ≡ why_send old.hub.config (phase_at old.hub to) kind body → TopicsEnd old → Proceeds [] [] old new → Appends (only to (data_frame kind body)) old new
-    → Serves old.hub.config every_topic from number (send to kind body) old new
-serves_sent from number to kind body old new none ends x app =
-    sent old.hub.config every_topic from number old new to kind body (sym (why_shown old.hub.config old.hub to kind body) ∙ sym none) ends x app
+module _ (from number : ℕ) (order : OrderValue) (why : Why) {old mid new : Server} (same : mid ≡ old) (x : NotesUnserved from number why mid new) (table : IsTable (table_of mid.hub)) where
+  pub refused_by : MayRefuse (why_at old.hub.config every_topic from (standings_at old.hub) order) (needs_memory from (standings_at old.hub) order) why → ServesOrder from number order old new
+  refused_by may = record {
+    ties = x.ties;
+    serves = subst (λ (z : Server). MayRefuse (why_at z.hub.config every_topic from (standings_at z.hub) order) (needs_memory from (standings_at z.hub) order) why → Serves z.hub.config every_topic from number order z new) same
+        (λ may. record { steps = by_note (note.unserved from number why) ∷ []; answers = refuses why may refl; does = x.does }) may;
+    named = ap (λ (z : HubState). z.named) x.hub ∙ ap (λ (z : Server). z.hub.named) same;
+    table = subst (λ (z : HubState). IsTable (table_of z)) (sym x.hub) table;
+  }
+
+  -- for the first reason against it
+  pub order_refused : why_at old.hub.config every_topic from (standings_at old.hub) order ≡ Some why → ServesOrder from number order old new
+  order_refused reason = refused_by (for_reason reason)
+
+-- only an open connection has topics
+shown_open : (phase : Phase) → is_open (unless_gone (Some phase)) ≡ is_open (Some phase)
+shown_open Head = refl
+shown_open Open = refl
+shown_open Leaving = refl
+shown_open Ending = refl
+shown_open Gone = refl
+
+pub open_alone : (a : TableState) (p : List (ℕ × List ℕ)) (net : NetState) (t : Option (List NoteValue)) → IsHub a p → TopicsEnd (server (hub_of a p) net t)
+open_alone a p net t whole c off = whole.topics c (sym (shown_open (entry_of a.entries c).phase) ∙ off)
+
+-- a message that is published
+pub order_published : (from number : ℕ) (topic : List ℕ) (kind : Kind) (body : List ℕ) (a b : Server) → why_publish a.hub.config topic kind body ≡ None → TopicsEnd a → Publishes (Some from) topic kind body a b → ServesOrder from number (publish topic kind body) a b
+order_published from number topic kind body a b none ends x = record {
+  ties = x.ties;
+  serves = served_by a.hub.config every_topic from number a b (publish topic kind body) (published a.hub.pairs (Some from) topic kind body) a none ends (obeys_same from (publish topic kind body) a (λ c p. refl)) x.proceeds x.appends (λ c. refl);
+  named = x.named;
+  table = x.table;
+}

@@ -1,5 +1,6 @@
 -- Notes of what became of one connection's octets: they leave each connection as far as it is, and say nothing of others.
-use Rattle.hub_core.proofs.Below.{zero, length, ◌≡◌, ◌≢◌, ℕ, List, [], ◌∷◌, ◌++◌, Option, Some, None, Bool, true, false, cond, suc, nat_eq, ◌&&◌, ◌||◌, refl, sym, ap, ◌∙◌, subst, arith, ⊎_elim, cases_eq, one_more, nat_tests, list_all, list_any, Left, Phase, Head, Open, Leaving, Ending, Gone, NoteValue, gather, total, number_of, took_by, taken_by, dropped_by, writes, taken, dropped_of, is_gone_in, is_gone_by_in, Tell, one_dropped, tell_by, tell_by_all, drops_in, Kept, Clear, Backlog, Dropped, Failed, tell_after, is_of, is_gone_by, is_sending, moved, leaves_open, topics_left, cause_of, is_dropped, drops, short_from, short_after, fell_short, is_silent, ShortWhereHeld, silent_drops, silent_short, AreNoted, is_outgoing, is_link_failure, Progress, progress_by, progress_after, progress_after_all, may_come, may_all_come, unless_gone, clash, and_left, and_right, all_as, none_of}
+use Rattle.hub_core.proofs.Below.{zero, length, ◌≡◌, ◌≢◌, ℕ, List, [], ◌∷◌, ◌++◌, Option, Some, None, Bool, true, false, cond, suc, nat_eq, ◌||◌, refl, sym, ap, ◌∙◌, subst, arith, ⊎_elim, cases_eq, one_more, nat_tests, list_all, Left, Phase, Head, Open, Leaving, Ending, Gone, NoteValue, gather, total, number_of, took_by, taken_by, dropped_by, writes, taken, dropped_of, is_gone_in, is_gone_by_in, Tell, one_dropped, tell_by, tell_by_all, drops_in, Kept, Clear, Backlog, Dropped, Failed, tell_after, is_of, is_gone_by, is_sending, moved, leaves_open, topics_left, cause_of, is_dropped, drops, short_from, short_after, fell_short, is_silent, ShortWhereHeld, silent_drops, silent_short, AreNoted, is_outgoing, is_link_failure, Progress, progress_by, progress_after, progress_after_all, may_come, may_all_come, unless_gone, clash, and_left, and_right, all_as}
+use Rattle.run_meaning.proofs.NoteLemmas.{none_follow}
 use Rattle.ws_kinds.specs.NoteValue as note
 use Rattle.run_meaning.specs.Notes.{is_gone}
 
@@ -99,10 +100,10 @@ pub sent_failures : (c : ℕ) (ns : List NoteValue) → list_all (is_sending c) 
 sent_failures c ns e = zero_of (is_sending c) is_link_failure (one_failure c) ns e
 
 pub sent_gone : (c x : ℕ) (ns : List NoteValue) → list_all (is_sending c) ns ≡ true → is_gone_in x ns ≡ false
-sent_gone c x ns e = none_of (is_sending c) (is_gone x) (one_gone c x) ns e
+sent_gone c x ns e = none_follow (is_sending c) (is_gone x) (one_gone c x) ns e
 
 pub sent_gone_by : (c x : ℕ) (left : Left) (ns : List NoteValue) → list_all (is_sending c) ns ≡ true → is_gone_by_in x left ns ≡ false
-sent_gone_by c x left ns e = none_of (is_sending c) (is_gone_by x left) (one_gone_by c x left) ns e
+sent_gone_by c x left ns e = none_follow (is_sending c) (is_gone_by x left) (one_gone_by c x left) ns e
 
 pub sent_silent : (c x : ℕ) (ns : List NoteValue) → x ≢ c → list_all (is_sending c) ns ≡ true → list_all (is_silent x) ns ≡ true
 sent_silent c x ns ne e = all_as (is_sending c) (is_silent x) (one_silent c x ne) ns e

@@ -1,5 +1,5 @@
 -- Hubs of which one connection changes, with what the net and the watch tell of the others.
-use Rattle.hub_core.proofs.Below.{◌≡◌, ◌≢◌, ◌≤◌, ◌+◌, ℕ, List, [], ◌∷◌, ◌++◌, Option, Some, None, Bool, true, false, cond, nat_eq, bytes_eq, not, is_some, ◌&&◌, ◌||◌, length, refl, sym, ap, ◌∙◌, arith, list_all, list_any, Phase, Head, Open, Leaving, Ending, Gone, NoteValue, NetState, taken_of, is_dropped, is_silent, HubState, Entry, Server, entry_at, entry_of, has_entry, is_gone, is_present, phase_at, ring_at, cork_at, pending_at, has_pair, Others, Beside, SameElsewhere, SameLinesElsewhere, present_entry, beside_of, AreNoted, SameDrops, KeepsFront, items_at, Progress, progress_at, due_of, due_at, topics_of, topics_at, unless_gone, TableState, IsTable, ChangesOne, by_cases, clash, no_more, ChangesHub, hub_of, same_told}
+use Rattle.hub_core.proofs.Below.{◌≡◌, ◌≢◌, ◌≤◌, ◌+◌, ℕ, List, [], ◌++◌, Option, Some, None, Bool, true, false, cond, nat_eq, not, is_some, ◌||◌, length, refl, sym, ap, ◌∙◌, arith, list_all, Phase, Head, Open, Leaving, Ending, Gone, NoteValue, NetState, taken_of, is_dropped, is_silent, HubState, Entry, Server, entry_at, entry_of, has_entry, is_gone, is_present, phase_at, ring_at, cork_at, pending_at, Others, Beside, SameElsewhere, SameLinesElsewhere, present_entry, beside_of, AreNoted, SameDrops, KeepsFront, items_at, Progress, progress_at, due_of, due_at, topics_at, unless_gone, TableState, IsTable, ChangesOne, clash, no_more, ChangesHub, hub_of, same_told, has_topic, is_pair, topics_of, subst, nat_tests, by_cases, ChangesTopics, is_open, same, of_other, IsHub}
 use Rattle.hub_core.proofs.SentLemmas.{silent_dropped, split_notes}
 
 -- ---- phases
@@ -57,22 +57,37 @@ entry_kept c a b change was is x ne =
 -- ---- topics
 
 -- who subscribed to what, by each one's topics
-pair_is : (pairs : List (ℕ × List ℕ)) (x : ℕ) (topic : List ℕ) → has_pair pairs x topic ≡ list_any (λ (z : List ℕ). bytes_eq z topic) (topics_of pairs x)
-pair_is [] x topic = refl
-pair_is (first ∷ rest) x topic = by_cases (nat_eq first.0 x)
-    (λ e. ap (λ (z : Bool). (z && bytes_eq first.1 topic) || has_pair rest x topic) e ∙ ap (λ (z : Bool). bytes_eq first.1 topic || z) (pair_is rest x topic)
-    ∙ sym (ap (λ (z : Bool). list_any (λ (y : List ℕ). bytes_eq y topic) (cond z (first.1 ∷ topics_of rest x) (topics_of rest x))) e))
-    (λ e. ap (λ (z : Bool). (z && bytes_eq first.1 topic) || has_pair rest x topic) e ∙ pair_is rest x topic
-    ∙ sym (ap (λ (z : Bool). list_any (λ (y : List ℕ). bytes_eq y topic) (cond z (first.1 ∷ topics_of rest x) (topics_of rest x))) e))
-
-pub pairs_same : (a b : HubState) (x : ℕ) → topics_at b x ≡ topics_at a x → (topic : List ℕ) → has_pair b.pairs x topic ≡ has_pair a.pairs x topic
-pairs_same a b x same topic = pair_is b.pairs x topic ∙ ap (list_any (λ (z : List ℕ). bytes_eq z topic)) same ∙ sym (pair_is a.pairs x topic)
+pub pairs_same : (a b : HubState) (x : ℕ) → topics_at b x ≡ topics_at a x → (topic : List ℕ) → is_pair b.pairs topic x ≡ is_pair a.pairs topic x
+pairs_same a b x same topic = ap (has_topic topic) same
 
 -- ---- what is beside the connection that changes
 
--- as long as only the table is filled
-pub plain_change : (c : ℕ) (a b : TableState) → ChangesOne c a b → ChangesHub c (hub_of a) (hub_of b)
-plain_change c a b change = record { table = change; cork = λ x ne. refl; pending = λ x ne. refl; topics = λ x ne. refl; tells = λ x ne. refl }
+pub same_or_not : {A : Type 0} (c d : ℕ) → (d ≡ c → A) → (d ≢ c → A) → A
+same_or_not c d yes_ no_ = by_cases (nat_eq d c) (λ e. yes_ (grind (arith, nat_tests))) (λ e. no_ (λ same. clash (nat_eq d c) e (grind (arith, nat_tests))))
+
+-- as long as the table and the topics alone are filled
+pub plain_change : {c : ℕ} {a b : TableState} (p q : List (ℕ × List ℕ)) → ChangesOne c a b → ((x : ℕ) → x ≢ c → topics_of q x ≡ topics_of p x) → ChangesHub c (hub_of a p) (hub_of b q)
+plain_change p q change topics = record { table = change; cork = λ x ne. refl; pending = λ x ne. refl; topics = topics; tells = λ x ne. refl }
+
+pub table_change : {c : ℕ} {a b : TableState} (p : List (ℕ × List ℕ)) → ChangesOne c a b → ChangesHub c (hub_of a p) (hub_of b p)
+table_change p change = plain_change p p change (λ x ne. refl)
+
+-- one connection's topics change
+pub topics_here : (c : ℕ) (f : List (List ℕ) → List (List ℕ)) (p q : List (ℕ × List ℕ)) → ChangesTopics c f p q → topics_of q c ≡ f (topics_of p c)
+topics_here c f p q changes = changes c ∙ ap (λ (z : Bool). cond z (f (topics_of p c)) (topics_of p c)) (same c)
+
+pub topics_elsewhere : (c : ℕ) (f : List (List ℕ) → List (List ℕ)) (p q : List (ℕ × List ℕ)) → ChangesTopics c f p q → (x : ℕ) → x ≢ c → topics_of q x ≡ topics_of p x
+topics_elsewhere c f p q changes x ne = changes x ∙ ap (λ (z : Bool). cond z (f (topics_of p x)) (topics_of p x)) (of_other c x ne)
+
+-- only a connection that is open has topics, also after a step of one connection
+pub hub_changed : {c : ℕ} {a b : TableState} {p q : List (ℕ × List ℕ)} → IsHub a p → IsTable b → ((x : ℕ) → x ≢ c → entry_of b.entries x ≡ entry_of a.entries x) → ((x : ℕ) → x ≢ c → topics_of q x ≡ topics_of p x)
+    → (is_open (Some (entry_of b.entries c).phase) ≡ false → topics_of q c ≡ []) → IsHub b q
+hub_changed {c} {a} {b} {p} {q} was table entries topics here = record {
+  table = table;
+  topics = λ x off. same_or_not c x
+      (λ e. subst (λ (z : ℕ). topics_of q z ≡ []) (sym e) (here (subst (λ (z : ℕ). is_open (Some (entry_of b.entries z).phase) ≡ false) e off)))
+      (λ ne. topics x ne ∙ was.topics x (ap (λ (z : Entry). is_open (Some z.phase)) (sym (entries x ne)) ∙ off));
+}
 
 module _ {c : ℕ} {a b : HubState} (change : ChangesHub c a b) where
   pub change_phase : (x : ℕ) → x ≢ c → (entry_at b x).phase ≡ (entry_at a x).phase

@@ -1,7 +1,8 @@
 -- Connections that are finished, one after another, as a turn ends.
-use Rattle.hub_core.proofs.Below.{length, inl, ◌≡◌, ◌≢◌, ◌<◌, ◌≤◌, ◌+◌, ◌-◌, ◌^◌, ℕ, List, [], ◌∷◌, ◌++◌, Option, Some, None, Bool, true, false, cond, not, ◌||◌, nat_eq, nat_lt, refl, sym, ap, ◌∙◌, subst, append-nil, arith, nat_tests, Finished, Phase, Ending, NoteValue, IsNoted, NetState, Item, has_number, joined, HubState, Entry, TellingValue, Server, server, is_gone, has_entry, is_present, entry_at, ring_at, cork_at, pending_at, StandsFor, nothing, present_entry, FailsAfter, TakesAll, items_at, Advances, Appends, by_cases, clash, or_false, or_assoc, same, fails_then, fails_same, advances_then, advances_same, appends_before_nothing, appends_same, IsTable, table_of, tell_of, tell_at, held_in, may_leave_by, nothing_told, at_turn, is_turn, list_any, Goes, Rise, finishes, FinishesOne, FinishesIfEmpty, EndsTurn, or_true, no}
+use Rattle.hub_core.proofs.Below.{length, inl, ◌≡◌, ◌≢◌, ◌<◌, ◌≤◌, ◌+◌, ◌-◌, ◌^◌, ℕ, List, [], ◌∷◌, ◌++◌, Option, Some, Bool, true, false, cond, not, ◌||◌, nat_eq, nat_lt, refl, sym, ap, ◌∙◌, subst, append-nil, arith, nat_tests, Finished, Phase, Ending, NoteValue, IsNoted, NetState, Item, has_number, joined, HubState, Entry, TellingValue, Server, server, is_gone, has_entry, is_present, entry_at, ring_at, cork_at, pending_at, StandsFor, nothing, present_entry, FailsAfter, TakesAll, items_at, Advances, Appends, by_cases, clash, or_false, or_assoc, same, fails_then, fails_same, advances_then, advances_same, appends_before_nothing, appends_same, IsTable, table_of, tell_of, tell_at, held_in, may_leave_by, nothing_told, at_turn, is_turn, list_any, Goes, Rise, finishes, FinishesOne, FinishesIfEmpty, EndsTurn, or_true, no}
 use Rattle.ws_kinds.specs.NoteValue as note
-use Rattle.hub_core.proofs.NoteLemmas.{NotesOne, advances_noted, fails_noted, appends_noted, same_or_not}
+use Rattle.hub_core.proofs.NoteLemmas.{NotesOne, advances_noted, fails_noted, appends_noted}
+use Rattle.hub_core.proofs.StateLemmas.{same_or_not}
 use Rattle.hub_core.proofs.CallLemmas.{phase_known as phase_of}
 use Rattle.hub_core.proofs.LeaveLemmas.{all_later}
 

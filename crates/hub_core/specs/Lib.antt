@@ -4,4 +4,6 @@ pub mod At
 pub mod Changes
 pub mod Puts
 pub mod Sends
+pub mod Publishing
+pub mod Serving
 pub mod All

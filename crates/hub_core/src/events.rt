@@ -10,7 +10,8 @@ ghost use Rattle.run_meaning.specs.Lines.{is_open};
 ghost use Rattle.run_meaning.specs.Settled.{is_reading};
 ghost use Rattle.hub_lines.specs.State.{phase_at};
 ghost use Rattle.hub_lines.specs.Calls.{Ties, only, served};
-ghost use Rattle.hub_notes.specs.Answers.{has_frames, is_failure, IsClose};
+ghost use Rattle.wire_meaning.specs.Bounds.{is_failure};
+ghost use Rattle.hub_notes.specs.Answers.{has_frames, FitsCloseFrame};
 ghost use Rattle.hub_core.specs.At.{at};
 ghost use Rattle.hub_core.specs.Sends.{GivesOctets, Notes, LosesLink, Sends};
 
@@ -104,7 +105,7 @@ impl Hub {
         reason: &[u8],
     )
         requires phase { has_frames (phase_at self.old conn.0) ≡ true }
-        requires code { IsClose code reason.now }
+        requires code { FitsCloseFrame code reason.now }
         requires ties { Ties (at N.Net W.Watch self.old out.old) }
         ensures { Sends conn.0 (note.peer_close conn.0 code reason.now ∷ []) (served (is_open (phase_at self.old conn.0)) (only conn.0 (close_item code)))
             (at N.Net W.Watch self.old out.old) (at N.Net W.Watch self.new out.new) }

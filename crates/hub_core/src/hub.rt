@@ -20,6 +20,7 @@ use hub_table::{Connections, Parting};
 use link_trait::{Net, Outside};
 use std::alloc::{AllocError, Global};
 use std::marker::Model;
+use topic_tree::Topics;
 use ws_kinds::{Config, Conn, Note, Phase, Watch};
 
 /// All connections of a server.
@@ -29,18 +30,18 @@ use ws_kinds::{Config, Conn, Note, Phase, Watch};
 #[derive(Drop)]
 pub struct Hub {
     pub(crate) table: Connections,
+    pub(crate) topics: Topics,
 }
 
 impl Model for Hub {
     ghost use Rattle.hub_lines.specs.State.{HubState};
-    ghost use Rattle.hub_notes.specs.Table.{IsTable};
-    ghost use Rattle.hub_core.specs.State.{hub_of};
+    ghost use Rattle.hub_core.specs.State.{hub_of, IsHub};
 
     ghost Value = { HubState };
 
-    ghost view = { λ hub. hub_of hub.table };
+    ghost view = { λ hub. hub_of hub.table hub.topics };
 
-    ghost invariant = { λ hub. IsTable hub.table };
+    ghost invariant = { λ hub. IsHub hub.table hub.topics };
 }
 
 impl Hub {
@@ -55,6 +56,7 @@ impl Hub {
     {
         Ok(Hub {
             table: Connections::new(alloc, config)?,
+            topics: Topics::new(alloc),
         })
     }
 

@@ -4,7 +4,9 @@
 mod events;
 mod hub;
 mod orders;
+mod publishing;
 mod puts;
+mod subscriptions;
 mod turns;
 
 pub use hub::Hub;

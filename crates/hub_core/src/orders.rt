@@ -1,15 +1,20 @@
-//! The orders of a handler.
+//! The orders of a handler, and the messages that are sent.
 
 ghost use Rattle.std.specs.Prelude.{◌≡◌};
-ghost use Rattle.ws_kinds.specs.OrderValue.{order_value, order_values, send};
+ghost use Rattle.ws_kinds.specs.NoteValue as note;
+ghost use Rattle.ws_kinds.specs.OrderValue.{order_value, order_values, send, publish as publishes};
+ghost use Rattle.run_meaning.specs.Lines.{is_open as is_open_phase};
 ghost use Rattle.run_meaning.specs.Server.{every_topic};
-ghost use Rattle.run_meaning.specs.Orders.{why_send};
+ghost use Rattle.run_meaning.specs.Steps.{by_note};
+ghost use Rattle.run_meaning.specs.Orders.{is_bad_text as IsBadText, why_send};
 ghost use Rattle.hub_lines.specs.State.{phase_at};
 ghost use Rattle.hub_lines.specs.Calls.{Ties};
-ghost use Rattle.hub_notes.specs.Serving.{Serves, ServesAll};
+ghost use Rattle.hub_notes.specs.Progress.{standings_at};
+ghost use Rattle.hub_notes.specs.Serving.{ServesAll};
 ghost use Rattle.hub_notes.specs.Table.{IsTable, table_of};
 ghost use Rattle.hub_core.specs.At.{at};
 ghost use Rattle.hub_core.specs.Sends.{SendsMessage};
+ghost use Rattle.hub_core.specs.Serving.{NotesUnserved, ServesOrder};
 
 use crate::Hub;
 use link_trait::{Net, Outside};
@@ -47,6 +52,12 @@ impl Hub {
 
     /// Serves the orders of an event of a connection, in order. One that is refused changes nothing and is noted as Unserved,
     /// with its number, counted from 0.
+    ///
+    /// A message that is sent is refused as [`Hub::send`] says, and one that is published as [`Hub::publish`] says. To
+    /// subscribe is refused, in this order, as `NotOpen` where the event's connection is not open, as `BadTopic` where the
+    /// topic has no octets or more than 64, as `TooMany` where it would be the connection's sixty-fifth topic, and as `Memory`
+    /// where there was too little; a topic that is there already stays. To unsubscribe is refused as `NotOpen` and `BadTopic`
+    /// alike; where the topic is not there, nothing changes.
     pub fn perform<N: Net, W: Watch>(
         &mut self,
         out: &mut Outside<N, W>,
@@ -73,13 +84,15 @@ impl Hub {
         order: &Order<'_>,
     )
         requires ties { Ties (at N.Net W.Watch self.old out.old) }
-        ensures ties { Ties (at N.Net W.Watch self.new out.new) }
-        ensures serves { Serves self.old.config every_topic conn.0 number (order_value order.now) (at N.Net W.Watch self.old out.old) (at N.Net W.Watch self.new out.new) }
-        ensures named { self.new.named ≡ self.old.named }
-        ensures table { IsTable (table_of self.new) }
+        ensures { ServesOrder conn.0 number (order_value order.now) (at N.Net W.Watch self.old out.old) (at N.Net W.Watch self.new out.new) }
     {
         match *order {
             Order::Send { to, kind, body } => self.serve_send(out, conn, number, to, kind, body),
+            Order::Subscribe { topic } => self.serve_subscribe(out, conn, number, topic),
+            Order::Unsubscribe { topic } => self.serve_unsubscribe(out, conn, number, topic),
+            Order::Publish { topic, kind, body } => self.serve_publish(
+                out, conn, number, topic, kind, body,
+            ),
         }
     }
 
@@ -93,19 +106,27 @@ impl Hub {
         body: &[u8],
     )
         requires ties { Ties (at N.Net W.Watch self.old out.old) }
-        ensures ties { Ties (at N.Net W.Watch self.new out.new) }
-        ensures serves { Serves self.old.config every_topic conn.0 number (send to.0 kind body.now) (at N.Net W.Watch self.old out.old) (at N.Net W.Watch self.new out.new) }
-        ensures named { self.new.named ≡ self.old.named }
-        ensures table { IsTable (table_of self.new) }
+        ensures { ServesOrder conn.0 number (send to.0 kind body.now) (at N.Net W.Watch self.old out.old) (at N.Net W.Watch self.new out.new) }
     {
         let _ = &self.table;
         match self.send(out, to, kind, body) {
             Ok(_) => {}
-            Err(why) => {
-                let order = number;
-                out.watch.note(&Note::Unserved { conn, order, why });
-            }
+            Err(why) => self.unserved(out, conn, number, why),
         }
+    }
+
+    /// Notes that an order is not served.
+    pub(crate) fn unserved<N: Net, W: Watch>(
+        &self,
+        out: &mut Outside<N, W>,
+        conn: Conn,
+        order: u8,
+        why: Why,
+    )
+        requires ties { Ties (at N.Net W.Watch self.now out.old) }
+        ensures { NotesUnserved conn.0 order why (at N.Net W.Watch self.now out.old) (at N.Net W.Watch self.now out.new) }
+    {
+        out.watch.note(&Note::Unserved { conn, order, why });
     }
 
     fn refusal(&self, to: Conn, kind: Kind, body: &[u8]) -> Option<Why>
@@ -119,9 +140,30 @@ impl Hub {
         if body.len() > self.table.max_message() as usize {
             return Some(Why::TooBig);
         }
-        if kind == Kind::Text && !is_utf8(body) {
+        if is_bad_text(kind, body) {
             return Some(Why::BadText);
         }
         None
+    }
+
+    /// Whether a connection is open.
+    pub(crate) fn is_open(&self, conn: Conn) -> bool
+        ensures { result ≡ is_open_phase (standings_at self.now conn.0).phase }
+    {
+        match self.table.phase(conn) {
+            Some(Phase::Open) => true,
+            Some(_) => false,
+            None => false,
+        }
+    }
+}
+
+/// Whether a text is not UTF-8 (RFC 6455, section 5.6).
+pub(crate) fn is_bad_text(kind: Kind, body: &[u8]) -> bool
+    ensures { result ≡ IsBadText kind body.now }
+{
+    match kind {
+        Kind::Text => !is_utf8(body),
+        Kind::Binary => false,
     }
 }

@@ -74,6 +74,7 @@ impl Hub {
     {
         if self.table.phase(conn) == Some(Phase::Open) {
             self.table.close(conn, code, reason);
+            self.topics.drop_conn(conn);
             return true;
         }
         self.table.enter(conn, Phase::Ending);
@@ -95,5 +96,6 @@ impl Hub {
         out.net.shut(conn);
         out.watch.note(&Note::Gone { conn, left });
         self.table.leave(conn);
+        self.topics.drop_conn(conn);
     }
 }

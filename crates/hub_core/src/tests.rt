@@ -4,6 +4,7 @@ mod calls;
 mod failing_net;
 pub mod scene;
 mod senders;
+mod topics;
 
 use super::*;
 use calls::*;
@@ -13,7 +14,7 @@ use scene::*;
 use senders::{send_and_lose, send_to_both};
 use socket_core::Kept;
 use std::test::*;
-use ws_kinds::{Config, Conn, Kind, Left, Note, Phase, Why};
+use ws_kinds::{Config, Conn, Kind, Left, Note, Order, Phase, Why};
 
 const ONE: Conn = Conn(1);
 
@@ -48,6 +49,19 @@ fn no_more_connections_are_taken_than_there_may_be(rt: HostRuntime) -> Result<()
 fn each_call_notes_what_came(rt: HostRuntime) -> Result<(), Fail> {
     let mut out = outside(&rt)?;
     let mut hub = hub_of(&rt, 6)?;
+    let kind = Kind::Text;
+    let orders = [
+        Order::Send {
+            to: FOUR,
+            kind,
+            body: b"hi",
+        },
+        Order::Send {
+            to: NINE,
+            kind,
+            body: b"no",
+        },
+    ];
     let calls = [
         (ONE, Call::Admit),
         (TWO, Call::Refuse),
@@ -57,7 +71,7 @@ fn each_call_notes_what_came(rt: HostRuntime) -> Result<(), Fail> {
         (SIX, Call::Admit),
         (ONE, Call::Ping),
         (ONE, Call::Pong),
-        (ONE, Call::Orders(FOUR)),
+        (ONE, Call::Orders(&orders)),
         (ONE, Call::Close(1001, b"bye")),
         (FOUR, Call::Failed),
         (FIVE, Call::Ended),
@@ -93,11 +107,7 @@ fn each_call_notes_what_came(rt: HostRuntime) -> Result<(), Fail> {
             body: b"ho",
         },
         took(FOUR, 4),
-        Note::Unserved {
-            conn: ONE,
-            order: 1,
-            why: Why::Absent,
-        },
+        unserved(ONE, 1, Why::Absent),
         Note::PeerClose {
             conn: ONE,
             code: 1001,
@@ -199,7 +209,16 @@ fn a_write_that_fails_ends_its_own_connection_alone(rt: HostRuntime) -> Result<(
     };
     let mut out = Outside { net, watch, tally };
     let mut hub = hub_of(&rt, 6)?;
-    let calls = [(ONE, Call::Admit), (TWO, Call::Admit), (THREE, Call::Admit)];
+    let room = [subscribe(b"room")];
+    let calls = [
+        (ONE, Call::Admit),
+        (TWO, Call::Admit),
+        (THREE, Call::Admit),
+        (FOUR, Call::Admit),
+        (ONE, Call::Orders(&room)),
+        (THREE, Call::Orders(&room)),
+        (FOUR, Call::Orders(&room)),
+    ];
     play(&mut hub, &mut out, &calls);
     out.net.failing = TWO;
     let sends = [
@@ -208,11 +227,39 @@ fn a_write_that_fails_ends_its_own_connection_alone(rt: HostRuntime) -> Result<(
         (THREE, Kind::Text, b"hi", Ok(Kept::Clear)),
     ];
     assert_eq!(rt; first_other_answer(&mut hub, &mut out, &sends), None);
-    let notes = [took(ONE, 4), gone(TWO, Left::LinkFailed), took(THREE, 4)];
-    assert_eq!(rt; differing(&out.watch, 12, &notes), None);
-    assert_eq!(rt; out.net.faults, 1);
-    assert_eq!(rt; out.net.inner.taken(TWO), b"reply".as_slice());
+    out.net.failing = THREE;
+    let publications = [
+        (
+            None,
+            b"room".as_slice(),
+            Kind::Text,
+            b"ho".as_slice(),
+            Ok(3),
+        ),
+        (Some(FOUR), b"room", Kind::Text, b"hu", Ok(1)),
+    ];
+    assert_eq!(rt; first_other_count(&mut hub, &mut out, &publications), None);
+    let notes = [
+        took(ONE, 4),
+        gone(TWO, Left::LinkFailed),
+        took(THREE, 4),
+        took(ONE, 4),
+        gone(THREE, Left::LinkFailed),
+        took(FOUR, 4),
+        took(ONE, 4),
+    ];
+    assert_eq!(rt; differing(&out.watch, 14, &notes), None);
+    assert_eq!(rt; out.net.faults, 2);
+    let taken = [
+        (TWO, b"reply".as_slice()),
+        (THREE, b"reply\x81\x02hi"),
+        (FOUR, b"reply\x81\x02ho"),
+    ];
+    for (conn, octets) in taken {
+        assert_eq!(rt; out.net.inner.taken(conn), octets);
+    }
     assert!(rt; is_closed(&mut hub, TWO, 1006, b""));
+    assert!(rt; is_closed(&mut hub, THREE, 1006, b""));
     Ok(())
 }
 

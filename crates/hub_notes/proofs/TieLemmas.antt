@@ -1,5 +1,5 @@
 -- Which connections are there after a call, by its notes, and that their links are live.
-use Rattle.hub_notes.proofs.Below.{◌≡◌, ℕ, List, [], ◌∷◌, ◌++◌, Option, Some, None, Bool, true, false, cond, not, ◌&&◌, ◌||◌, refl, sym, ap, ◌∙◌, arith, nat_tests, list_all, list_any, Left, Phase, Head, Open, Leaving, Ending, Gone, NoteValue, is_of, is_gone, is_acceptance, gather, accepted_by, has_number, is_accepted, is_gone_in, moved, list_any-append, has_number-append, HubState, Server, is_present, entry_at, Ties, is_outgoing, Progress, progress_at, progress_by, progress_after, progress_after_all, unless_gone, Advances, Proceeds, by_cases, clash, or_left, or_right, and_left, and_right, none_moves}
+use Rattle.hub_notes.proofs.Below.{◌≡◌, ℕ, List, [], ◌∷◌, ◌++◌, Option, Some, None, Bool, true, false, cond, not, ◌&&◌, ◌||◌, refl, sym, ap, ◌∙◌, list_all, list_any, Left, Phase, Head, Open, Leaving, Ending, Gone, NoteValue, is_of, is_gone, is_acceptance, gather, accepted_by, has_number, is_accepted, is_gone_in, moved, list_any-append, has_number-append, HubState, Server, is_present, entry_at, Ties, is_outgoing, Progress, progress_at, progress_by, progress_after, progress_after_all, unless_gone, Advances, Proceeds, by_cases, clash, or_left, or_right, and_left, and_right, none_moves}
 use Rattle.ws_kinds.specs.NoteValue as note
 use Rattle.hub_lines.specs.State as hub
 

@@ -1,5 +1,5 @@
 -- What the calls of a hub answer and note.
-use Rattle.std.specs.Prelude.{◌≡◌, ◌<◌, ◌≤◌, ◌⊎◌, ◌==◌, ◌||◌, ℕ, List, [], ◌∷◌, Option, Some, Bool, true, false, IsTrue, length}
+use Rattle.std.specs.Prelude.{◌≡◌, ◌<◌, ◌≤◌, ◌⊎◌, ℕ, List, [], ◌∷◌, Option, Some, Bool, true, false, IsTrue, length}
 use Rattle.ws_kinds.specs.declared.note.Phase.TheVariants.{Open, Leaving}
 use Rattle.ws_kinds.specs.declared.note.Phase.{Phase}
 use Rattle.ws_kinds.specs.NoteValue as note
@@ -29,10 +29,6 @@ has_frames (Some Open) = true
 has_frames (Some Leaving) = true
 has_frames _ = false
 
--- the codes with which a connection fails (RFC 6455, section 7.4.1)
-abbrev pub is_failure : ℕ → Bool
-is_failure code = code == 1002 || code == 1007 || code == 1009
-
--- what a close frame says: nothing, told as 1005, or a code that may be sent and a reason
-abbrev pub IsClose : ℕ → List ℕ → Type 0
-IsClose code reason = ((code ≡ 1005) × (reason ≡ [])) ⊎ (IsTrue (is_sendable code) × (length reason ≤ 123))
+-- a code and a reason that fit a close frame: none, told as 1005, or a code that may be sent and at most 123 octets
+abbrev pub FitsCloseFrame : ℕ → List ℕ → Type 0
+FitsCloseFrame code reason = ((code ≡ 1005) × (reason ≡ [])) ⊎ (IsTrue (is_sendable code) × (length reason ≤ 123))

@@ -9,7 +9,8 @@ use Rattle.ws_kinds.specs.NoteValue.{NoteValue}
 use Rattle.ws_kinds.specs.OrderValue.{OrderValue, subscribe, unsubscribe, close}
 use Rattle.hub_lines.specs.State.{HubState, PartingValue, entry_at}
 use Rattle.run_meaning.specs.Notes.{is_of}
-use Rattle.run_meaning.specs.Lines.{moved, closing, leaves_open, topics_left, with_topic, without_topic, is_open, cause_of}
+use Rattle.ws_kinds.specs.Topics.{topics_of, with_topic, without_topic}
+use Rattle.run_meaning.specs.Lines.{moved, closing, leaves_open, topics_left, is_open, cause_of}
 use Rattle.run_meaning.specs.Orders.{Standing, unless_gone}
 use Rattle.run_meaning.specs.Steps.{Step, by_note, by_order, is_for}
 
@@ -29,11 +30,6 @@ due_of (first ∷ rest) conn = if nat_eq first.conn conn then Some (first.code, 
 
 abbrev pub due_at : HubState → ℕ → Option (ℕ × List ℕ)
 due_at hub conn = due_of hub.partings conn
-
--- the topics of a connection, of these pairs of connections and topics
-abbrev pub topics_of : List (ℕ × List ℕ) → ℕ → List (List ℕ)
-topics_of [] conn = []
-topics_of (first ∷ rest) conn = if nat_eq first.0 conn then first.1 ∷ topics_of rest conn else topics_of rest conn
 
 abbrev pub topics_at : HubState → ℕ → List (List ℕ)
 topics_at hub conn = topics_of hub.pairs conn

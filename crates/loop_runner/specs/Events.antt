@@ -1,7 +1,8 @@
 -- What a reader can tell.
 use Rattle.std.specs.Prelude.{◌≡◌, ◌≤◌, ⊤, true, List, [], ◌∷◌, length}
 use Rattle.wire_meaning.specs.Event.{Event, message, ping, pong, closed, failed}
-use Rattle.hub_notes.specs.Answers.{is_failure, IsClose}
+use Rattle.wire_meaning.specs.Bounds.{is_failure}
+use Rattle.hub_notes.specs.Answers.{FitsCloseFrame}
 
 -- a ping is short; a close has no code and no reason, or a code that may be sent and a short reason; and a failure has a code
 -- that the standard has for it
@@ -9,7 +10,7 @@ abbrev pub IsSound : Event → Type 0
 IsSound (message kind octets) = ⊤
 IsSound (ping payload) = length payload ≤ 125
 IsSound (pong payload) = ⊤
-IsSound (closed code reason) = IsClose code reason
+IsSound (closed code reason) = FitsCloseFrame code reason
 IsSound (failed code) = is_failure code ≡ true
 
 abbrev pub AreSound : List Event → Type 0

@@ -13,6 +13,7 @@ use std::process::Abort;
 use std::test::*;
 use ws_kinds::{
     Bytes, Config, Conn, Event, Handler, Kind, Left, Note, Order, Orders, Recorder, Tally, What,
+    Why,
 };
 
 const ONE: Conn = Conn(1);
@@ -106,6 +107,40 @@ impl Handler for EverySecond {
                 body,
             });
         }
+    }
+}
+
+/// A handler that answers each event by a subscription and a publication.
+#[derive(Drop)]
+struct Announcer;
+
+impl Handler for Announcer {
+    ghost use Rattle.std.specs.Prelude.{⊤, [], ◌∷◌, codes};
+    ghost use Rattle.std.proofs.Common.{arith, rules};
+    ghost use Rattle.ws_kinds.specs.declared.kind.Kind.TheVariants.{Text};
+    ghost use Rattle.ws_kinds.specs.OrderValue.{subscribe, publish};
+
+    ghost State = { ⊤ };
+
+    ghost state = { λ announcer. tt {0} };
+
+    ghost after = { λ state _. state };
+
+    ghost said = { λ _ event. subscribe (codes "all") ∷ publish (codes "all") Text (codes "news") ∷ [] };
+
+    ghost said_few = { λ now event. Prim.grind (arith, rules) };
+
+    fn on(&mut self, event: Event<'_>) {
+        let _ = event;
+    }
+
+    fn orders<'m>(&'m self, event: Event<'m>, out: &mut Orders<'m>) {
+        let _ = event;
+        let topic = b"all";
+        let kind = Kind::Text;
+        let body = b"news";
+        out.push(Order::Subscribe { topic });
+        out.push(Order::Publish { topic, kind, body });
     }
 }
 
@@ -272,6 +307,50 @@ fn a_head_in_pieces_and_a_message_are_answered(rt: HostRuntime) -> Result<(), Fa
     assert_eq!(rt; ran, case.ran);
     expect_notes(&rt, &out.watch, case.notes);
     assert_eq!(rt; out.net.taken(ONE), reply_and_hello(&rt)?.as_slice());
+    Ok(())
+}
+
+#[test]
+fn the_answer_to_a_closed_event_is_served(rt: HostRuntime) -> Result<(), Fail> {
+    let rows = [
+        Row::Arrive(ONE),
+        Row::Octets(ONE, HEAD),
+        Row::Arrive(TWO),
+        Row::Octets(TWO, HEAD),
+        Row::Turn,
+        Row::End(ONE),
+    ];
+    let notes = [
+        Note::Accepted(ONE),
+        given(ONE, 144),
+        opened(ONE),
+        took(ONE, 129),
+        Note::Accepted(TWO),
+        given(TWO, 144),
+        opened(TWO),
+        took(TWO, 129),
+        took(ONE, 6),
+        Note::Turn,
+        Note::Gone {
+            conn: ONE,
+            left: Left::PeerEnd,
+        },
+        Note::Closed {
+            conn: ONE,
+            code: 1006,
+            reason: b"",
+        },
+        Note::Unserved {
+            conn: ONE,
+            order: 0,
+            why: Why::NotOpen,
+        },
+        took(TWO, 6),
+        Note::Turn,
+    ];
+    let (out, ran) = run_with(&rt, &mut Announcer, 2, &rows, 9)?;
+    assert_eq!(rt; ran, Ran::Stopped(2));
+    expect_notes(&rt, &out.watch, &notes);
     Ok(())
 }
 

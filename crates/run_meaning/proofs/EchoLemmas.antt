@@ -1,5 +1,5 @@
 -- A handler that echoes, and one connection by itself.
-use Rattle.run_meaning.proofs.Below.{◌≡◌, ℕ, List, [], ◌∷◌, ◌++◌, Bool, true, false, cond, ◌&&◌, not, refl, sym, ap, ◌∙◌, append-nil, append_assoc, nat_eq, arith, nat_tests, Kind, NoteValue, send, Item, reply, window, is_of, Line, World, step, run, first_world, world, noted, is_refused, obeyed, after_own, moved, route_after, appended, sends, put, data_frame, echo_server, echo_by, EchoLine, echo_view, echo_own, echo_after, echo_lines, echo_start, sent_back, same_number}
+use Rattle.run_meaning.proofs.Below.{◌≡◌, ℕ, List, [], ◌∷◌, ◌++◌, Bool, true, false, cond, ◌&&◌, not, refl, sym, ap, ◌∙◌, append-nil, append_assoc, nat_eq, Kind, NoteValue, send, Item, reply, window, is_of, Line, World, step, run, first_world, world, noted, is_refused, obeyed, after_own, moved, route_after, appended, sends, put, data_frame, echo_server, echo_by, EchoLine, echo_view, echo_own, echo_after, echo_lines, echo_start, sent_back, same_number}
 use Rattle.ws_kinds.specs.NoteValue as note
 use Rattle.ws_kinds.specs.EventValue as event
 use Rattle.run_meaning.proofs.Underway.{perform-line}

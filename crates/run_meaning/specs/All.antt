@@ -20,7 +20,8 @@ pub use Rattle.run_meaning.specs.Echo.{EchoLine, echo_after, echo_by, echo_lines
 pub use Rattle.run_meaning.specs.Events.{events, events_from, one_or_none, state_after}
 pub use Rattle.run_meaning.specs.Kept.{kept, kept_of, without}
 pub use Rattle.run_meaning.specs.Life.{Carried, Carries, Heard, IsLife, Lived, LivedThroughout, Reaches, first_frames, frames_in, heard, heard_by, is_frame_heard, last_frame, life_by, opened, read, refused, to_hear}
-pub use Rattle.run_meaning.specs.Lines.{Line, World, after_own, answered, appended, cause_of, close_frame, closed_by_server, closing, conns_after, data_frame, event_of, first_world, has_topic, is_frame, is_gone_phase, is_naming, is_open, is_refused, is_still, is_subscribed, leaves_alone, leaves_open, line_after, moved, noted, noted_all, obey, obeyed, orders_of, param_after, perform, phase, plain, put, route_after, run, sends, serve, step, topics_left, unknown, with_topic, without_topic, world}
+pub use Rattle.run_meaning.specs.Lines.{Line, World, after_own, answered, appended, cause_of, close_frame, closed_by_server, closing, conns_after, data_frame, event_of, first_world, is_frame, is_gone_phase, is_naming, is_open, is_refused, is_still, is_subscribed, leaves_alone, leaves_open, line_after, moved, noted, noted_all, obey, obeyed, orders_of, param_after, perform, phase, plain, put, route_after, run, sends, serve, step, topics_left, unknown, world}
+pub use Rattle.ws_kinds.specs.Topics.{has_topic, with_topic, without_topic}
 pub use Rattle.run_meaning.specs.Network.{Follows, Mark, is_aside, is_inner, marks_by, marks_of}
 pub use Rattle.run_meaning.specs.Network.Mark.{arrival, tick, turn}
 pub use Rattle.run_meaning.specs.Notes.{conn_of, is_acceptance, is_event, is_gone, is_gone_by, is_left, is_of, is_sending, is_some_of, is_turn, is_unserved, until, window}

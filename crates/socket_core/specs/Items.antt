@@ -1,7 +1,9 @@
 -- What is put for a connection, and the item of those that a server sends which it is.
 use Rattle.std.specs.Prelude.{◌≡◌, ◌≤◌, ◌+◌, ℕ, IsTrue, Bool, true, false, not, ◌==◌, ◌||◌, if◌then◌else◌, List, ◌++◌, length}
 use Rattle.ws_kinds.specs.ConfigValue.{ConfigValue}
+use Rattle.ws_kinds.specs.declared.kind.Kind.TheVariants.{Text, Binary}
 use Rattle.wire_meaning.specs.declared.frame.Opcode.{Opcode}
+use Rattle.wire_meaning.specs.declared.frame.Opcode.TheVariants.{Begins, Close}
 use Rattle.wire_meaning.specs.Frame.{header, opcode_number}
 use Rattle.wire_meaning.specs.Answer.{Item as Sent, reply, whole, spelled}
 use Rattle.hub_lines.specs.Items.{can_drop as may_drop}
@@ -15,11 +17,11 @@ octets_of (Reply text) = text.now
 octets_of (Spelled frame) = frame.now
 octets_of (Frame opcode payload) = header opcode (length payload.now) ++ payload.now
 
--- replies and close frames, whose opcode is 8, are never dropped
+-- replies and close frames are never dropped
 abbrev pub can_drop : Item → Bool
 can_drop (Reply text) = false
 can_drop (Spelled frame) = true
-can_drop (Frame opcode payload) = not (opcode == 8)
+can_drop (Frame opcode payload) = not (opcode == opcode_number Close)
 
 -- the item is this one of those that a server sends
 abbrev pub IsSent : Item → Sent → Type 0
@@ -29,7 +31,7 @@ IsSent (Frame number payload) sent = IsTrue (is_sent_opcode number) × ((opcode 
 
 -- the most octets that a frame's payload has: those of a message, or 125 in a control frame (5.5)
 abbrev pub longest_payload : ConfigValue → ℕ → ℕ
-longest_payload config opcode = if opcode == 1 || opcode == 2 then config.max_message else 125
+longest_payload config opcode = if opcode == opcode_number (Begins Text) || opcode == opcode_number (Begins Binary) then config.max_message else 125
 
 -- an item that may be put after so many others
 abbrev pub IsPuttable : ConfigValue → ℕ → Item → Type 0

@@ -18,6 +18,7 @@ pub use Rattle.std.specs.declared.ops.Bound.TheVariants.{Excluded, Unbounded}
 pub use Rattle.topic_tree.specs.Pairs.{AreThePairs, AreTopics}
 pub use Rattle.topic_tree.specs.Subscribers.{has_subscriber, subscriber, subscriber_cmp}
 pub use Rattle.topic_tree.specs.Subscriptions.{pairs_of}
-pub use Rattle.topic_tree.specs.Topics.{ChangesTopics, IsLast, IsNext, has_topic, is_pair, topics_of, with_topic, without_topic}
+pub use Rattle.topic_tree.specs.Topics.{ChangesTopics, IsLast, IsNext}
+pub use Rattle.ws_kinds.specs.Topics.{has_topic, is_pair, topics_of, with_topic, without_topic}
 pub use Rattle.topic_tree.specs.declared.subscribers.Subscriber.{Subscriber}
 pub use Rattle.topic_tree.specs.declared.subscribers.Subscribers.{Subscribers}

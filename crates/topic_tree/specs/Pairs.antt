@@ -2,7 +2,7 @@
 use Rattle.std.specs.Prelude.{◌≡◌, ◌≤◌, ℕ, List, true, length}
 use Rattle.std.specs.List.{IsDistinct}
 use Rattle.std.specs.Str.{bytes_eq}
-use Rattle.topic_tree.specs.Topics.{topics_of, has_topic, is_pair}
+use Rattle.ws_kinds.specs.Topics.{topics_of, has_topic, is_pair}
 use Rattle.topic_tree.specs.Subscribers.{has_subscriber}
 use Rattle.topic_tree.specs.declared.subscribers.Subscribers.{Subscribers}
 

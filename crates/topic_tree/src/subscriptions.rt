@@ -1,7 +1,8 @@
 //! The topics of each connection.
 
 ghost use Rattle.std.specs.Prelude.{◌≡◌, ◌≤◌, ◌++◌, [], ◌∷◌, length, OnOk, OnErr};
-ghost use Rattle.topic_tree.specs.Topics.{topics_of, has_topic, without_topic, ChangesTopics};
+ghost use Rattle.topic_tree.specs.Topics.{ChangesTopics};
+ghost use Rattle.ws_kinds.specs.Topics.{topics_of, has_topic, without_topic};
 
 use crate::topic_list::TopicList;
 use std::alloc::{AllocError, Global};

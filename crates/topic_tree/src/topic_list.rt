@@ -3,7 +3,7 @@
 ghost use Rattle.std.specs.Prelude.{◌≡◌, ◌<◌, ◌≤◌, ◌++◌, [], ◌∷◌, Some, length, slice_get, OnOk, OnErr};
 ghost use Rattle.std.specs.Str.{bytes_eq};
 ghost use Rattle.std.specs.List.{list_any};
-ghost use Rattle.topic_tree.specs.Topics.{has_topic, without_topic};
+ghost use Rattle.ws_kinds.specs.Topics.{has_topic, without_topic};
 
 use std::alloc::{AllocError, Global};
 use std::marker::Model;

@@ -1,7 +1,8 @@
 //! Who subscribed to which topics.
 
 ghost use Rattle.std.specs.Prelude.{◌≡◌, ◌≤◌, ◌<◌, [], ◌↔◌, ◌⊎◌, ◌&&◌, ℕ, List, Ok, Err, true, false, not, nat_eq, length, IfOk, IfErr, OnOk, OnErr, IfSome, IfNone};
-ghost use Rattle.topic_tree.specs.Topics.{topics_of, has_topic, is_pair, with_topic, without_topic, ChangesTopics, IsNext, IsLast};
+ghost use Rattle.topic_tree.specs.Topics.{ChangesTopics, IsNext, IsLast};
+ghost use Rattle.ws_kinds.specs.Topics.{topics_of, has_topic, is_pair, with_topic, without_topic};
 ghost use Rattle.topic_tree.specs.Pairs.{AreTopics};
 ghost use Rattle.topic_tree.specs.Subscribers.{has_subscriber};
 

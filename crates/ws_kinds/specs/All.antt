@@ -8,3 +8,4 @@ pub use Rattle.ws_kinds.specs.OwnedNote.{owned_note_value}
 pub use Rattle.ws_kinds.specs.Ranges.{AreNotes, AreOctets, IsNote}
 pub use Rattle.ws_kinds.specs.Recorder.{RecorderState, told_by}
 pub use Rattle.ws_kinds.specs.Watch.{AreNoted, IsNoted}
+pub use Rattle.ws_kinds.specs.Topics.{has_topic, is_pair, topics_of, with_topic, without_topic}

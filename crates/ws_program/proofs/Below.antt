@@ -10,15 +10,15 @@ pub use Rattle.std.proofs.lemmas.Grind.{flat_map-append}
 pub use Rattle.std.proofs.lemmas.List.{length-append, length-take-le, take-append-le, take_all}
 pub use Rattle.std.proofs.lemmas.List.Folds.{list_any-append}
 pub use Rattle.std.proofs.lemmas.List.Recursion.{is_count_by}
-pub use Rattle.ws_program.specs.All.{Bor, Appends, Consumes, IsAtEnd, AllByRecursion, count_by, flat_map, list_all, list_any, ConfigValue, NoteValue, note_value, AreNotes, RecorderState, told_by, Kind, Left, LinkFailed, PeerEnd, Phase, Ending, Gone, Head, Leaving, Open, answers, close_item, echoed, spelled, AreShort, Event, is_last, frame, reading, Begins, Pong, Rose, TellsAlike, is_rest, NetState, AppendsFront, Act, NetEvent, arrivals, finish_by, finish_of, is_end, is_fault, or_then, passes, passes_by, sent, LinkState, is_finish, is_ready, new_link, FollowsSchedule, MemNetState, link_at, link_of, net_state, start_net, has_arrived, is_ending, is_plain, Finish, WritesText, IsRefused, IsText, Link, link_line, note_line, report, HasLine, header, Fault, TooLong, ahead, raw_of, room_of, HasStepped, IsMore, events_of, Reader, Step, RouteTable, accepted_by, gather, is_accepted, is_gone_by_in, number_of, EchoLine, echo_after, echo_lines, echo_own, echo_said, echo_server, echo_start, sent_back, LivedThroughout, data_frame, is_gone_phase, is_refused, moved, phase, plain, route_after, sends, is_gone_by, is_of, window, AreReplies, Right, is_reading, Settled, held_at, held_octets, Entry, HubState, entry_at, has_entry, is_gone, phase_at, ring_at, server, IsTable, table_of, AreThere, backlog_at, IntakeView, intake_at, AreFew, AreViews, Beginning, EndsWithTurn, IsLivedThroughout, IsRight, IsSettled, KeptAll, no_view, GrowsBy, Runs, goes_on, Intakes, Answers, AnswersAll, AnswersNext, AnswersStep, GoesOn, Passes, Puts, answers_to, EchoesFront, EndsDone, EndsPast, EndsTooLong, ReadsNoFurther, has_ended, AnswersText, CanRun, HasRun, IsRefusal, IsTaken, RefusesAs, ReplayEnds, ReplaysAll, ReplaysFront, echo_routes, AreLinks, IsReplayed, IsReport, all_link_lines, is_end_of, is_fault_of, is_stop, is_turn_act, links_of, Streams, streams, IsEcho, IsReplay, Names, Answered, Status, Done, OutOfMemory, ReadFault, Refused, Usage, WriteFault, Command, Echo, Replay}
-pub use Rattle.ws_kinds.proofs.Facts.{and_left, and_right, and_left as both_left, and_right as both_right, by_cases, clash, same_number}
+pub use Rattle.ws_program.specs.All.{Bor, Appends, Consumes, IsAtEnd, AllByRecursion, count_by, flat_map, list_all, list_any, option_to_list, ConfigValue, EventValue, WhatValue, NoteValue, note_value, OrderValue, close, publish, send, subscribe, unsubscribe, AreNotes, RecorderState, told_by, Kind, Left, LinkFailed, PeerEnd, Phase, Ending, Gone, Head, Leaving, Open, Item, answers, close_item, echoed, spelled, AreShort, Event, is_last, frame, reading, Begins, Pong, Rose, TellsAlike, is_rest, NetState, AppendsFront, Act, NetEvent, arrivals, finish_by, finish_of, is_end, is_fault, or_then, passes, passes_by, sent, LinkState, is_finish, is_ready, new_link, FollowsSchedule, MemNetState, link_at, link_of, net_state, start_net, has_arrived, is_ending, is_plain, Finish, WritesText, IsRefused, IsText, Link, link_line, note_line, report, HasLine, header, Fault, TooLong, ahead, raw_of, room_of, HasStepped, IsMore, events_of, Reader, Step, RouteTable, bus_order, bus_said, order_on, routes_of_bus, accepted_by, gather, is_accepted, is_gone_by_in, is_gone_in, number_of, LivedThroughout, Line, World, after_own, answered, appended, close_frame, data_frame, event_of, first_world, is_gone_phase, is_refused, line_after, noted, obey, obeyed, orders_of, phase, plain, run, step, is_gone_by, is_left, is_of, window, AreReplies, Right, Server, is_reading, frames_of, Settled, held_at, held_octets, Entry, HubState, entry_at, has_entry, is_gone, phase_at, ring_at, server, IsTable, table_of, AreThere, backlog_at, IntakeView, intake_at, AreFew, AreViews, Beginning, EndsWithTurn, IsLivedThroughout, IsRight, IsSettled, KeptAll, no_view, GrowsBy, Runs, goes_on, Intakes, Answers, AnswersAll, AnswersNext, AnswersStep, GoesOn, Passes, Puts, answers_to, bus_server, EchoesFront, EndsDone, EndsPast, EndsTooLong, ReadsNoFurther, has_ended, AnswersText, CanRun, HasRun, IsRefusal, IsTaken, RefusesAs, ReplayEnds, ReplaysAll, ReplaysFront, AreLinks, IsReplayed, IsReport, all_link_lines, is_end_of, is_fault_of, is_stop, is_turn_act, links_of, Streams, streams, IsEcho, IsReplay, Names, Answered, Status, Done, OutOfMemory, ReadFault, Refused, Usage, WriteFault, Command, Echo, Replay}
+pub use Rattle.ws_kinds.proofs.Facts.{and_left, and_right, and_left as both_left, and_right as both_right, by_cases, clash}
 pub use Rattle.wire_meaning.proofs.All.{reading_short, reads_is}
 pub use Rattle.link_trait.proofs.Pieces.{TellsAlike-trans}
 pub use Rattle.mem_net.proofs.All.{not_there}
 pub use Rattle.schedule_text.proofs.All.{spelled_some, one_to_one}
-pub use Rattle.run_meaning.proofs.All.{world_view, gather-append, gone_moved, take_one}
+pub use Rattle.run_meaning.proofs.All.{gather-append, gone-append, act, perform-line, take_one}
 pub use Rattle.hub_lines.proofs.All.{settled_held, next, none_of}
 pub use Rattle.hub_core.proofs.All.{phase_there}
-pub use Rattle.run_laws.proofs.All.{accepted_known, unaccepted_phase}
-pub use Rattle.run_kept.proofs.All.{there_first}
+pub use Rattle.run_laws.proofs.All.{obeys_by, unaccepted_phase}
+pub use Rattle.run_kept.proofs.All.{there_first, known_world}
 pub use Rattle.loop_runner.proofs.All.{kept_at_first, lived_first}

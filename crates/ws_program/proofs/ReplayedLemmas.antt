@@ -1,74 +1,29 @@
 -- What comes of the acts of a schedule, where a run over its net is right and settled.
-use Rattle.ws_program.proofs.Below.{◌≡◌, ◌≢◌, ℕ, List, [], ◌∷◌, ◌++◌, Bool, true, false, cond, not, ◌&&◌, ◌||◌, ◌⊎◌, inl, inr, Option, Some, None, length, take, nat_eq, nat_lt, refl, sym, ap, ◌∙◌, subst, append-nil, arith, take-length, nat_tests, list_any, ConfigValue, Left, PeerEnd, LinkFailed, Phase, Head, Open, Leaving, Ending, Gone, NoteValue, Act, Finish, sent, finish_of, finish_by, or_then, is_end, is_fault, LinkState, is_ready, is_finish, has_arrived, is_ending, MemNetState, FollowsSchedule, net_state, link_at, not_there, RouteTable, is_of, window, is_gone_by, is_accepted, is_gone_by_in, moved, phase, is_refused, is_gone_phase, echo_server, EchoLine, echo_own, echo_after, echo_lines, echo_start, is_reading, Right, LivedThroughout, world_view, by_cases, clash, both_left, both_right, same_number, accepted_known, unaccepted_phase, IsReplayed, is_end_of, is_fault_of, or_second, or_first, gone_moved}
+use Rattle.ws_program.proofs.Below.{◌≡◌, ◌≢◌, ℕ, List, [], ◌∷◌, ◌++◌, Bool, true, false, cond, not, ◌&&◌, ◌||◌, ◌⊎◌, inl, inr, Option, Some, None, length, take, nat_eq, nat_lt, refl, sym, ap, ◌∙◌, subst, append-nil, arith, take-length, nat_tests, list_any, ConfigValue, Left, PeerEnd, LinkFailed, Phase, Head, Open, Leaving, Ending, Gone, NoteValue, Act, Finish, sent, finish_of, finish_by, or_then, is_end, is_fault, LinkState, is_ready, is_finish, has_arrived, is_ending, MemNetState, FollowsSchedule, net_state, link_at, not_there, RouteTable, is_gone_by, is_accepted, is_gone_by_in, phase, is_gone_phase, is_reading, Right, LivedThroughout, by_cases, clash, both_left, both_right, unaccepted_phase, IsReplayed, is_end_of, is_fault_of, or_second, or_first, is_left, is_gone_in, Server, known_world, bus_server, gone-append}
 use Rattle.ws_kinds.specs.NoteValue as note
 use Rattle.link_trait.specs.declared.act.Act.TheVariants as act
 use Rattle.mem_net.specs.declared.mem_link.Finish.TheVariants as finish
 use Rattle.run_meaning.specs.Settled.{Settled}
 
--- ---- a connection that is gone stays so
+-- ---- a connection that is gone
 
--- the phase of a connection after notes
-abbrev phases : ℕ → List NoteValue → Option Phase → Option Phase
-phases d [] p = p
-phases d (n ∷ ns) p = phases d ns (cond (is_of d n) (moved p n) p)
+gone_by : (d : ℕ) (l : Left) (n : NoteValue) → is_gone_by d l n ≡ true → is_gone_in d (n ∷ []) ≡ true
+gone_by d l (note.gone c k) e = or_first (nat_eq c d) false (both_left (nat_eq c d) (is_left l k) e)
+gone_by d l n e = clash false refl e
 
-phases-append : (d : ℕ) (xs ys : List NoteValue) (p : Option Phase) → phases d (xs ++ ys) p ≡ phases d ys (phases d xs p)
-phases-append d [] ys p = refl
-phases-append d (x ∷ xs) ys p = phases-append d xs ys (cond (is_of d x) (moved p x) p)
+gone_by_in : (d : ℕ) (l : Left) (ns : List NoteValue) → is_gone_by_in d l ns ≡ true → is_gone_in d ns ≡ true
+gone_by_in d l [] e = clash false refl e
+gone_by_in d l (n ∷ ns) e = gone-append d (n ∷ []) ns ∙ by_cases (is_gone_by d l n)
+    (λ here. or_first (is_gone_in d (n ∷ [])) (is_gone_in d ns) (gone_by d l n here))
+    (λ later. or_second (is_gone_in d (n ∷ [])) (is_gone_in d ns) (gone_by_in d l ns (sym (ap (λ z. z || is_gone_by_in d l ns) later) ∙ e)))
 
-lines_phases : (text : List ℕ) (d : ℕ) (l : EchoLine) (ns : List NoteValue) → (echo_lines text d l ns).phase ≡ phases d ns l.phase
-lines_phases text d l [] = refl
-lines_phases text d l (n ∷ ns) =
-    lines_phases text d (echo_after text d n ns l) ns ∙ ap (λ p. phases d ns p) (one (is_of d n))
-  where
-    one : (z : Bool) → (cond z (echo_own text (is_refused (window ns) d 0) n l) l).phase ≡ cond z (moved l.phase n) l.phase
-    one true = refl
-    one false = refl
-
-phase_is : (replies : ℕ → List ℕ) (d : ℕ) (ns : List NoteValue) → phase (echo_server replies) ns d ≡ phases d ns None
-phase_is replies d ns = ap (λ (l : EchoLine). l.phase) (sym (world_view replies (replies d) d ns refl)) ∙ lines_phases (replies d) d echo_start ns
-
-gone_stays : (d : ℕ) (ns : List NoteValue) → phases d ns (Some Gone) ≡ Some Gone
-gone_stays d [] = refl
-gone_stays d (n ∷ ns) = ap (λ p. phases d ns p) (one (is_of d n)) ∙ gone_stays d ns
-  where
-    one : (z : Bool) → cond z (moved (Some Gone) n) (Some Gone) ≡ Some Gone
-    one true = gone_moved n
-    one false = refl
-
-known_gone : (p : Option Phase) (d : ℕ) (l : Left) → p ≢ None → moved p (note.gone d l) ≡ Some Gone
-known_gone None d l known = absurd (known refl)
-known_gone (Some Head) d l known = refl
-known_gone (Some Open) d l known = refl
-known_gone (Some Leaving) d l known = refl
-known_gone (Some Ending) d l known = refl
-known_gone (Some Gone) d l known = refl
-
--- a note says that the connection is gone
-record SaysGone (d : ℕ) (ns : List NoteValue) : Type 0 where
-  before : List NoteValue
-  rest : List NoteValue
-  left : Left
-  split : ns ≡ before ++ note.gone d left ∷ rest
-
-gone_note : (d : ℕ) (l : Left) (n : NoteValue) → is_gone_by d l n ≡ true → (left : Left) × (n ≡ note.gone d left)
-gone_note d l (note.gone c k) e = (k, ap (λ i. note.gone i k) (same_of c d (both (nat_eq c d) _ e)))
-  where
-    both : (a b : Bool) → (a && b) ≡ true → a ≡ true
-    both true b e = refl
-    both false b e = clash false refl e
-
-    same_of : (c d : ℕ) → nat_eq c d ≡ true → c ≡ d
-    same_of c d e = grind (arith, nat_tests)
-gone_note d l n e = clash false refl e
-
-says_gone : (d : ℕ) (l : Left) (ns : List NoteValue) → is_gone_by_in d l ns ≡ true → SaysGone d ns
-says_gone d l [] e = clash false refl e
-says_gone d l (n ∷ ns) e =
-    by_cases (is_gone_by d l n)
-    (λ here. let found = gone_note d l n here in record { before = []; rest = ns; left = found.0; split = ap (λ m. m ∷ ns) found.1 })
-    (λ elsewhere. let more = says_gone d l ns (sym (ap (λ z. z || is_gone_by_in d l ns) elsewhere) ∙ e) in
-    record { before = n ∷ more.before; rest = more.rest; left = more.left; split = ap (λ zs. n ∷ zs) more.split })
+reading_not_gone : (p : Option Phase) → is_reading p ≡ true → is_gone_phase p ≡ false
+reading_not_gone None e = refl
+reading_not_gone (Some Head) e = refl
+reading_not_gone (Some Open) e = refl
+reading_not_gone (Some Leaving) e = refl
+reading_not_gone (Some Ending) e = refl
+reading_not_gone (Some Gone) e = clash false refl e
 
 -- ---- how a link finishes
 
@@ -173,39 +128,17 @@ was_answered false false finish.Failed h = clash true h refl
 all_waiting : (given waiting octets : List ℕ) → given ++ waiting ≡ octets → waiting ≡ [] → given ≡ octets
 all_waiting given waiting octets e none = sym (append-nil given) ∙ ap (λ (w : List ℕ). given ++ w) (sym none) ∙ e
 
-module _ (f : ConfigValue) (t : RouteTable) (ns : List NoteValue) (net : MemNetState) (held replies : ℕ → List ℕ)
-    (right : Right (echo_server replies) f t ns (net_state net) tt held) where
-  -- once a note says so, the connection is gone
-  gone_phase : (d : ℕ) (l : Left) → is_gone_by_in d l ns ≡ true → phase (echo_server replies) ns d ≡ Some Gone
-  gone_phase d l e =
-      let says = says_gone d l ns e in
-      let named = (right.sound says.before says.rest (note.gone d says.left) says.split).named d refl in
-      let there : is_accepted d says.before ≡ true = by_cases (is_accepted d says.before) (λ yes. yes) (λ no. clash false refl (named no)) in
-      let known : phases d says.before None ≢ None = subst (λ p. p ≢ None) (phase_is replies d says.before) (accepted_known (echo_server replies) d says.before there) in
-      let split : phases d ns None ≡ phases d says.rest (cond (nat_eq d d) (moved (phases d says.before None) (note.gone d says.left)) (phases d says.before None)) =
-      ap (λ zs. phases d zs None) says.split ∙ phases-append d says.before (note.gone d says.left ∷ says.rest) None in
-      phase_is replies d ns ∙ split
-      ∙ ap (λ z. phases d says.rest (cond z (moved (phases d says.before None) (note.gone d says.left)) (phases d says.before None))) (same_number d)
-      ∙ ap (λ p. phases d says.rest p) (known_gone (phases d says.before None) d says.left known)
-      ∙ gone_stays d says.rest
+module _ {S : Type 0} (s : Server S) (f : ConfigValue) (t : RouteTable) (ns : List NoteValue) (net : MemNetState) (held : ℕ → List ℕ) (now : S)
+    (right : Right s f t ns (net_state net) now held) where
+  gone_reads : (d : ℕ) (l : Left) → is_reading (phase s ns d) ≡ true → is_gone_by_in d l ns ≡ true → ⊥
+  gone_reads d l reads gone = clash (is_gone_phase (phase s ns d)) (reading_not_gone (phase s ns d) reads) ((known_world s f ns right.sound).gone d ∙ gone_by_in d l ns gone)
 
-  gone_reads : (d : ℕ) (l : Left) → is_reading (phase (echo_server replies) ns d) ≡ true → is_gone_by_in d l ns ≡ true → ⊥
-  gone_reads d l reads gone = clash (is_reading (phase (echo_server replies) ns d)) (ap is_reading (gone_phase d l gone)) reads
-
-  reads_accepted : (d : ℕ) → is_reading (phase (echo_server replies) ns d) ≡ true → is_accepted d ns ≡ true
+  reads_accepted : (d : ℕ) → is_reading (phase s ns d) ≡ true → is_accepted d ns ≡ true
   reads_accepted d reads =
-      by_cases (is_accepted d ns) (λ there. there) (λ away. clash (is_reading (phase (echo_server replies) ns d)) (ap is_reading (unaccepted_phase (echo_server replies) d ns away)) reads)
-
-  reading_not_gone : (p : Option Phase) → is_reading p ≡ true → is_gone_phase p ≡ false
-  reading_not_gone None e = refl
-  reading_not_gone (Some Head) e = refl
-  reading_not_gone (Some Open) e = refl
-  reading_not_gone (Some Leaving) e = refl
-  reading_not_gone (Some Ending) e = refl
-  reading_not_gone (Some Gone) e = clash false refl e
+      by_cases (is_accepted d ns) (λ there. there) (λ away. clash (is_reading (phase s ns d)) (ap is_reading (unaccepted_phase s d ns away)) reads)
 
   module _ (follows : FollowsSchedule net) (whole : net.whole ≡ true) (done : net.done ≡ length net.acts)
-      (settled : Settled (echo_server replies) ns (net_state net) (record { pending = 0; gathered = []; backlog = held })) where
+      (settled : Settled s ns (net_state net) (record { pending = 0; gathered = []; backlog = held })) where
     all_acts : take net.done net.acts ≡ net.acts
     all_acts = ap (λ k. take k net.acts) done ∙ take-length net.acts
 
@@ -220,27 +153,27 @@ module _ (f : ConfigValue) (t : RouteTable) (ns : List NoteValue) (net : MemNetS
     finish_all : (d : ℕ) → has_arrived net.acts d ≡ true → (link_at net d).finish ≡ finish_of d net.acts
     finish_all d there = (follows.fits d there).finish ∙ ap (λ zs. finish_of d zs) all_acts
 
-    reads_live : (d : ℕ) → is_reading (phase (echo_server replies) ns d) ≡ true → (link_at net d).live ≡ true
+    reads_live : (d : ℕ) → is_reading (phase s ns d) ≡ true → (link_at net d).live ≡ true
     reads_live d reads =
-        settled.live d ∙ ap (λ z. z && not (is_gone_phase (phase (echo_server replies) ns d))) (reads_accepted d reads) ∙ ap not (reading_not_gone (phase (echo_server replies) ns d) reads)
+        settled.live d ∙ ap (λ z. z && not (is_gone_phase (phase s ns d))) (reads_accepted d reads) ∙ ap not (reading_not_gone (phase s ns d) reads)
 
-    reads_arrived : (d : ℕ) → is_reading (phase (echo_server replies) ns d) ≡ true → has_arrived net.acts d ≡ true
+    reads_arrived : (d : ℕ) → is_reading (phase s ns d) ≡ true → has_arrived net.acts d ≡ true
     reads_arrived d reads = arrived d (λ link. link.live) (reads_live d reads) (λ none. ap (λ (link : LinkState). link.live) (not_there d net none))
 
-    reads_idle : (d : ℕ) → is_reading (phase (echo_server replies) ns d) ≡ true → is_ready (link_at net d) ≡ false
+    reads_idle : (d : ℕ) → is_reading (phase s ns d) ≡ true → is_ready (link_at net d) ≡ false
     reads_idle d reads =
         by_cases (is_ready (link_at net d))
         (λ ready. clash (link_at net d).due (settled.asked d reads) (follows.told settled.rested d (reads_live d reads) ready))
         (λ idle. idle)
 
-    reads_drained : (d : ℕ) → is_reading (phase (echo_server replies) ns d) ≡ true → (link_at net d).waiting ≡ []
+    reads_drained : (d : ℕ) → is_reading (phase s ns d) ≡ true → (link_at net d).waiting ≡ []
     reads_drained d reads = nothing_waits (link_at net d).waiting (not (link_at net d).answered && is_finish (link_at net d).finish) (reads_idle d reads)
 
-    pub replay_given : (d : ℕ) → is_reading (phase (echo_server replies) ns d) ≡ true → (net_state net).given d ≡ sent d net.acts
+    pub replay_given : (d : ℕ) → is_reading (phase s ns d) ≡ true → (net_state net).given d ≡ sent d net.acts
     replay_given d reads = sent_all d (reads_arrived d reads) (reads_drained d reads)
 
     -- a connection that is read was not told an end or a fault
-    unanswered : (d : ℕ) → is_reading (phase (echo_server replies) ns d) ≡ true → (link_at net d).answered ≡ true → ⊥
+    unanswered : (d : ℕ) → is_reading (phase s ns d) ≡ true → (link_at net d).answered ≡ true → ⊥
     unanswered d reads answered =
         let fits = follows.fits d (reads_arrived d reads) in
         by_finish (link_at net d).finish refl (fits.answered answered).1
@@ -256,7 +189,7 @@ module _ (f : ConfigValue) (t : RouteTable) (ns : List NoteValue) (net : MemNetS
             let breaks : (net_state net).broken d ≡ true = fits.broken (ap (λ z. z && is_fault (link_at net d).finish) answered ∙ ap is_fault e) in
             gone_reads d LinkFailed reads (right.follows.broken d (reads_accepted d reads) ∙ breaks)
 
-    pub replay_unended : (d : ℕ) → is_reading (phase (echo_server replies) ns d) ≡ true → list_any (is_ending d) net.acts ≡ false
+    pub replay_unended : (d : ℕ) → is_reading (phase s ns d) ≡ true → list_any (is_ending d) net.acts ≡ false
     replay_unended d reads = by_answer (was_answered (nat_lt 0 (length (link_at net d).waiting)) (link_at net d).answered (link_at net d).finish (reads_idle d reads))
       where
         by_answer : ((link_at net d).finish ≡ finish.Later) ⊎ ((link_at net d).answered ≡ true) → list_any (is_ending d) net.acts ≡ false
@@ -282,5 +215,15 @@ module _ (f : ConfigValue) (t : RouteTable) (ns : List NoteValue) (net : MemNetS
         let finished = is_fault_is (link_at net d).finish (both_right (link_at net d).answered (is_fault (link_at net d).finish) both) in
         some_fault d net.acts (sym (finish_all d there) ∙ finished)
 
-    pub replay_all : LivedThroughout (echo_server replies) t f.max_message ns (net_state net).given → IsReplayed f t net.acts ns (net_state net) held replies
-    replay_all throughout = record { right = right; settled = settled; throughout = throughout; given = replay_given; unended = replay_unended; ended = replay_ended; failed = replay_failed }
+pub replay_all : (f : ConfigValue) (t : RouteTable) (ns : List NoteValue) (net : MemNetState) (held replies : ℕ → List ℕ) → Right (bus_server replies) f t ns (net_state net) tt held
+    → FollowsSchedule net → net.whole ≡ true → net.done ≡ length net.acts → Settled (bus_server replies) ns (net_state net) (record { pending = 0; gathered = []; backlog = held })
+    → LivedThroughout (bus_server replies) t f.max_message ns (net_state net).given → IsReplayed f t net.acts ns (net_state net) held replies
+replay_all f t ns net held replies right follows whole done settled throughout = record {
+  right = right;
+  settled = settled;
+  throughout = throughout;
+  given = replay_given (bus_server replies) f t ns net held tt right follows whole done settled;
+  unended = replay_unended (bus_server replies) f t ns net held tt right follows whole done settled;
+  ended = replay_ended (bus_server replies) f t ns net held tt right follows whole done settled;
+  failed = replay_failed (bus_server replies) f t ns net held tt right follows whole done settled;
+}

@@ -1,5 +1,5 @@
 -- What a run over a net in memory comes to, by what the loop says of it.
-use Rattle.ws_program.proofs.Below.{◌≡◌, ◌<◌, ◌≤◌, ◌+◌, ◌-◌, ◌^◌, ℕ, List, [], ◌∷◌, ◌++◌, Option, Some, None, Bool, true, false, cond, nat_eq, map, length, refl, sym, ap, ◌∙◌, subst, arith, count_by, length-append, ConfigValue, NoteValue, RecorderState, told_by, NetEvent, Act, passes, arrivals, sent, new_link, MemNetState, FollowsSchedule, net_state, start_net, link_of, RouteTable, Head, Gone, echo_server, echo_said, AreReplies, HubState, server, clash, IsTable, table_of, Settled, report, AreThere, backlog_at, there_first, intake_at, Intakes, kept_at_first, Runs, Beginning, IsRight, IsSettled, IsLivedThroughout, EndsWithTurn, AreFew, KeptAll, AreViews, no_view, IntakeView, AreNotes, IsReplayed, IsReport, AreLinks, links_of, is_turn_act, CanRun, HasRun, echo_routes}
+use Rattle.ws_program.proofs.Below.{◌≡◌, ◌<◌, ◌≤◌, ◌+◌, ◌-◌, ◌^◌, ℕ, List, [], ◌∷◌, ◌++◌, Option, Some, None, Bool, true, false, cond, nat_eq, map, length, refl, sym, ap, ◌∙◌, subst, arith, count_by, length-append, ConfigValue, NoteValue, RecorderState, told_by, NetEvent, Act, passes, arrivals, sent, new_link, MemNetState, FollowsSchedule, net_state, start_net, link_of, RouteTable, Head, Gone, AreReplies, HubState, server, clash, IsTable, table_of, Settled, report, AreThere, backlog_at, there_first, intake_at, Intakes, kept_at_first, Runs, Beginning, IsRight, IsSettled, IsLivedThroughout, EndsWithTurn, AreFew, KeptAll, AreViews, no_view, IntakeView, AreNotes, IsReplayed, IsReport, AreLinks, links_of, is_turn_act, CanRun, HasRun, bus_said, routes_of_bus, bus_server}
 use Rattle.link_trait.specs.declared.net.NetEvent.TheVariants as event
 use Rattle.loop_runner.specs.declared.turns.Ran.TheVariants as ran
 use Rattle.ws_program.proofs.FewLemmas.{few_items}
@@ -8,8 +8,8 @@ use Rattle.ws_program.proofs.EndLemmas.{ran_stopped, ran_never_spent, ran_never_
 use Rattle.ws_program.proofs.ReplayedLemmas.{replay_all}
 
 -- what the command begins with
-abbrev pub echo_beginning : ConfigValue → RouteTable → Beginning (Unit {0})
-echo_beginning f table = record { start = tt; after = λ state _. state; said = λ _ event. echo_said event; config = f; table = table }
+abbrev pub bus_beginning : ConfigValue → RouteTable → Beginning (Unit {0})
+bus_beginning f table = record { start = tt; after = λ state _. state; said = λ _ event. bus_said event; config = f; table = table }
 
 -- there is no intake yet
 abbrev pub no_views : ℕ → IntakeView
@@ -52,9 +52,9 @@ views_at_first intakes none conn intake there = absurd (let z : None ≡ Some in
 
 pub kept_first : (f : ConfigValue) (acts : List Act) (table : RouteTable) (hub : HubState) (start : MemNetState) (recorder : RecorderState)
     → hub.config ≡ f → hub.entries ≡ [] → hub.pairs ≡ [] → hub.partings ≡ [] → start ≡ start_net acts → recorder ≡ record { notes = []; whole = true }
-    → KeptAll (echo_beginning f table) (server hub (net_state start) (told_by recorder)) tt no_views None
+    → KeptAll (bus_beginning f table) (server hub (net_state start) (told_by recorder)) tt no_views None
 kept_first f acts table hub start recorder configured entries pairs partings begins empty =
-    kept_at_first (echo_beginning f table) (server hub (net_state start) (told_by recorder)) tt no_views entries pairs partings configured (table_at_first hub entries partings)
+    kept_at_first (bus_beginning f table) (server hub (net_state start) (told_by recorder)) tt no_views entries pairs partings configured (table_at_first hub entries partings)
     (ap told_by empty) (ap (λ (n : MemNetState). (net_state n).passed) begins) refl
 
 -- ---- after the last
@@ -92,23 +92,23 @@ module _ (f : ConfigValue) (acts : List Act) (hub : HubState) (net : MemNetState
         few p q n all most room = omega arith
 
     pub has_run : Settled hub → r.whole ≡ true → net.whole ≡ true → length r.notes < 2 ^ 64 → EndsWithTurn (told_by r)
-        → IsRight (echo_beginning f echo_routes) (server hub (net_state net) (told_by r)) tt
-        → IsSettled (echo_beginning f echo_routes) (server hub (net_state net) (told_by r)) → IsLivedThroughout (echo_beginning f echo_routes) (server hub (net_state net) (told_by r))
+        → IsRight (bus_beginning f routes_of_bus) (server hub (net_state net) (told_by r)) tt
+        → IsSettled (bus_beginning f routes_of_bus) (server hub (net_state net) (told_by r)) → IsLivedThroughout (bus_beginning f routes_of_bus) (server hub (net_state net) (told_by r))
         → AreNotes r.notes → AreLinks (links_of (backlog_at hub) (net_state net).taken r.notes) → HasRun f acts hub net r
     has_run settled kept whole short last right rests lived notes links = record { settled = settled; reports = all }
       where
         told : told_by r ≡ Some r.notes
         told = ap (λ b. cond b (Some r.notes) None) kept
 
-        few : (replies : ℕ → List ℕ) → AreFew (echo_server replies) r.notes
+        few : (replies : ℕ → List ℕ) → AreFew (bus_server replies) r.notes
         few replies front behind split d = let ends = last r.notes told in few_items replies r.notes front behind ends.0 ends.1 short split d
 
-        replayed : (replies : ℕ → List ℕ) → AreReplies echo_routes r.notes (net_state net).given replies → IsReplayed f echo_routes acts r.notes (net_state net) (backlog_at hub) replies
+        replayed : (replies : ℕ → List ℕ) → AreReplies routes_of_bus r.notes (net_state net).given replies → IsReplayed f routes_of_bus acts r.notes (net_state net) (backlog_at hub) replies
         replayed replies agree =
-            subst (λ (xs : List Act). IsReplayed f echo_routes xs r.notes (net_state net) (backlog_at hub) replies) acts_are
-            (replay_all f echo_routes r.notes net (backlog_at hub) replies (right.right r.notes told refl replies agree (few replies)) follows whole ended.0 (rests r.notes told refl replies agree (few replies)) (lived r.notes told refl replies agree (few replies)))
+            subst (λ (xs : List Act). IsReplayed f routes_of_bus xs r.notes (net_state net) (backlog_at hub) replies) acts_are
+            (replay_all f routes_of_bus r.notes net (backlog_at hub) replies (right.right r.notes told refl replies agree (few replies)) follows whole ended.0 (rests r.notes told refl replies agree (few replies)) (lived r.notes told refl replies agree (few replies)))
 
-        all : IsReport f echo_routes acts (report r.notes (links_of (backlog_at hub) (net_state net).taken r.notes))
+        all : IsReport f routes_of_bus acts (report r.notes (links_of (backlog_at hub) (net_state net).taken r.notes))
         all = record {
           notes = r.notes;
           net = net;

@@ -2,13 +2,14 @@
 pub use Rattle.std.specs.Borrow.{Bor}
 pub use Rattle.std.specs.Io.KnownBytes.{Appends, Consumes, IsAtEnd}
 pub use Rattle.std.specs.List.{AllByRecursion, count_by, flat_map, list_all, list_any}
-pub use Rattle.ws_kinds.specs.All.{ConfigValue, NoteValue, note_value, AreNotes, RecorderState, told_by}
+pub use Rattle.std.specs.Option.{option_to_list}
+pub use Rattle.ws_kinds.specs.All.{ConfigValue, EventValue, WhatValue, NoteValue, note_value, OrderValue, close, publish, send, subscribe, unsubscribe, AreNotes, RecorderState, told_by}
 pub use Rattle.ws_kinds.specs.declared.kind.Kind.{Kind}
 pub use Rattle.ws_kinds.specs.declared.note.Left.{Left}
 pub use Rattle.ws_kinds.specs.declared.note.Left.TheVariants.{LinkFailed, PeerEnd}
 pub use Rattle.ws_kinds.specs.declared.note.Phase.{Phase}
 pub use Rattle.ws_kinds.specs.declared.note.Phase.TheVariants.{Ending, Gone, Head, Leaving, Open}
-pub use Rattle.wire_meaning.specs.All.{answers, close_item, echoed, spelled, AreShort, Event, is_last, frame, reading}
+pub use Rattle.wire_meaning.specs.All.{Item, answers, close_item, echoed, spelled, AreShort, Event, is_last, frame, reading}
 pub use Rattle.wire_meaning.specs.declared.frame.Opcode.TheVariants.{Begins, Pong}
 pub use Rattle.link_trait.specs.All.{Rose, TellsAlike, is_rest, NetState, AppendsFront}
 pub use Rattle.link_trait.specs.declared.act.Act.{Act}
@@ -22,15 +23,17 @@ pub use Rattle.frame_reader.specs.All.{ahead, raw_of, room_of, HasStepped, IsMor
 pub use Rattle.frame_reader.specs.declared.reader.Reader.{Reader}
 pub use Rattle.frame_reader.specs.declared.step.Step.{Step}
 pub use Rattle.route_table.specs.All.{RouteTable}
-pub use Rattle.run_meaning.specs.All.{accepted_by, gather, is_accepted, is_gone_by_in, number_of, EchoLine, echo_after, echo_lines, echo_own, echo_said, echo_server, echo_start, sent_back, LivedThroughout, data_frame, is_gone_phase, is_refused, moved, phase, plain, route_after, sends, is_gone_by, is_of, window, AreReplies, Right, is_reading}
+pub use Rattle.bus_handler.specs.All.{bus_order, bus_said, order_on, routes_of_bus}
+pub use Rattle.run_meaning.specs.All.{accepted_by, gather, is_accepted, is_gone_by_in, is_gone_in, number_of, LivedThroughout, Line, World, after_own, answered, appended, close_frame, data_frame, event_of, first_world, is_gone_phase, is_refused, line_after, noted, obey, obeyed, orders_of, phase, plain, run, step, is_gone_by, is_left, is_of, window, AreReplies, Right, Server, is_reading, frames_of}
 pub use Rattle.hub_lines.specs.All.{Settled, held_at, held_octets, Entry, HubState, entry_at, has_entry, is_gone, phase_at, ring_at, server}
 pub use Rattle.hub_notes.specs.All.{IsTable, table_of}
 pub use Rattle.run_kept.specs.All.{AreThere, backlog_at, IntakeView}
 pub use Rattle.loop_runner.specs.All.{intake_at, AreFew, AreViews, Beginning, EndsWithTurn, IsLivedThroughout, IsRight, IsSettled, KeptAll, no_view, GrowsBy, Runs, goes_on}
 pub use Rattle.loop_runner.specs.declared.intakes.Intakes.{Intakes}
 pub use Rattle.ws_program.specs.Answers.{Answers, AnswersAll, AnswersNext, AnswersOctets, AnswersStep, CountsFaults, GoesOn, Passes, Puts, answers_to}
+pub use Rattle.ws_program.specs.BusServer.{bus_server}
 pub use Rattle.ws_program.specs.Echo.{EchoEnds, EchoesAll, EchoesFront, EndsDone, EndsPast, EndsTooLong, ReadsNoFurther, RefusesTooLong, has_ended, max_input, max_read}
-pub use Rattle.ws_program.specs.Replay.{AnswersSchedule, AnswersText, CanRun, GivesAll, HasRun, IsRefusal, IsReportOfText, IsTaken, RefusesAs, ReplayEnds, ReplaysAll, ReplaysFront, StopsReading, WritesNothing, echo_routes}
+pub use Rattle.ws_program.specs.Replay.{AnswersSchedule, AnswersText, CanRun, GivesAll, HasRun, IsRefusal, IsReportOfText, IsTaken, RefusesAs, ReplayEnds, ReplaysAll, ReplaysFront, StopsReading, WritesNothing}
 pub use Rattle.ws_program.specs.Replayed.{AreLinks, IsNew, IsReplayed, IsReport, all_link_lines, is_end_of, is_fault_of, is_stop, is_turn_act, links_of}
 pub use Rattle.ws_program.specs.Status.{exit_code_of}
 pub use Rattle.ws_program.specs.Streams.{Streams, TellsFaults, streams}

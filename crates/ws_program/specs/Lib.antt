@@ -3,6 +3,7 @@ pub mod Words
 pub mod Streams
 pub mod Echo
 pub mod Answers
+pub mod BusServer
 pub mod Replayed
 pub mod Replay
 pub mod All

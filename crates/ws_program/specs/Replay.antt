@@ -1,5 +1,5 @@
 -- What a replay did: the schedule that it read, and the report of the schedule's run that it wrote.
-use Rattle.std.specs.Prelude.{◌≡◌, ◌≤◌, ◌<◌, ◌⊎◌, ◌≢◌, ⊤, ℕ, List, [], Option, Some, true, false, codes, length}
+use Rattle.std.specs.Prelude.{◌≡◌, ◌≤◌, ◌<◌, ◌⊎◌, ◌≢◌, ⊤, ℕ, List, [], Option, Some, true, false, length}
 use Rattle.std.specs.List.{list_all}
 use Rattle.std.specs.Io.KnownBytes.{Appends, Consumes, IsAtEnd}
 use Rattle.ws_kinds.specs.ConfigValue.{ConfigValue}
@@ -9,7 +9,7 @@ use Rattle.mem_net.specs.MemNet.{MemNetState, net_state}
 use Rattle.mem_net.specs.Schedule.{is_sound, is_plain}
 use Rattle.link_trait.specs.declared.act.Act.{Act}
 use Rattle.link_trait.specs.Sink.{AppendsFront}
-use Rattle.route_table.specs.Table.{RouteTable, no_routes, with_route}
+use Rattle.bus_handler.specs.Bus.{routes_of_bus}
 use Rattle.schedule_text.specs.declared.fault.Fault.{Fault}
 use Rattle.schedule_text.specs.Reading.{IsText, IsRefused}
 use Rattle.schedule_text.specs.Output.{WritesText}
@@ -22,15 +22,11 @@ use Rattle.ws_program.specs.declared.status.Status.{Status}
 use Rattle.ws_program.specs.declared.status.Status.TheVariants.{Done, Usage, Refused, ReadFault, WriteFault, OutOfMemory}
 use Rattle.ws_program.specs.Streams.{Streams, TellsFaults}
 
--- the routes of the command: `/echo` alone, without a subprotocol
-abbrev pub echo_routes : RouteTable
-echo_routes = with_route no_routes (codes "/echo") []
-
 -- the octets that came are the text of a schedule, and the others are the report of its run
 pub record IsReportOfText (config : ConfigValue) (came text : List ℕ) : Type 0 where
   pub acts : List Act
   pub schedule : IsText came acts
-  pub reports : IsReport config echo_routes acts text
+  pub reports : IsReport config routes_of_bus acts text
 
 -- In what follows, `left` and `left'` are what the source tells as left before and after, and `written` and `written'`
 -- what the sink tells as written. `came` are the octets that were read.
@@ -104,7 +100,7 @@ pub record CanRun (acts : List Act) : Type 0 where
 -- what there is after a run of these acts: what can be written of it is its report
 pub record HasRun (config : ConfigValue) (acts : List Act) (hub : HubState) (net : MemNetState) (recorder : RecorderState) : Type 0 where
   pub settled : Settled hub
-  pub reports : IsReport config echo_routes acts (report recorder.notes (links_of (backlog_at hub) (net_state net).taken recorder.notes))
+  pub reports : IsReport config routes_of_bus acts (report recorder.notes (links_of (backlog_at hub) (net_state net).taken recorder.notes))
 
 -- the source gave octets to its end, or more than a text has, without a fault
 abbrev pub GivesAll : List ℕ → (left left' : Option (List ℕ)) → (faults faults' : ℕ) → Type 0
@@ -119,9 +115,9 @@ StopsReading status faults faults' = ⊥
 -- what becomes of a schedule: its run is reported, or a front of the report is written, or nothing
 abbrev pub AnswersSchedule : ConfigValue → List Act → Status → (written written' : Option (List ℕ)) → (faults faults' : ℕ) → Type 0
 AnswersSchedule config acts Done written written' faults faults' =
-    (text : List ℕ) × IsReport config echo_routes acts text × WritesText text written written' faults faults' true
+    (text : List ℕ) × IsReport config routes_of_bus acts text × WritesText text written written' faults faults' true
 AnswersSchedule config acts WriteFault written written' faults faults' =
-    (text : List ℕ) × IsReport config echo_routes acts text × WritesText text written written' faults faults' false
+    (text : List ℕ) × IsReport config routes_of_bus acts text × WritesText text written written' faults faults' false
 AnswersSchedule config acts OutOfMemory written written' faults faults' = (written' ≡ written) × (faults' ≡ faults)
 AnswersSchedule config acts status written written' faults faults' = ⊥
 

@@ -1,4 +1,4 @@
--- What comes of a schedule that was run over a net in memory, with a handler that sends each message of the first route back.
+-- What comes of a schedule that was run over a net in memory, with the built-in handler.
 use Rattle.std.specs.Prelude.{◌≡◌, ◌<◌, ◌+◌, ◌-◌, ◌^◌, ℕ, List, [], ◌∷◌, ◌++◌, Bool, true, false, nat_eq, length, map}
 use Rattle.std.specs.List.{list_any, flat_map, AllByRecursion}
 use Rattle.ws_kinds.specs.ConfigValue.{ConfigValue}
@@ -15,13 +15,13 @@ use Rattle.link_trait.specs.NetState.{NetState}
 use Rattle.mem_net.specs.MemNet.{MemNetState, FollowsSchedule, net_state}
 use Rattle.route_table.specs.Table.{RouteTable}
 use Rattle.run_meaning.specs.Counts.{gather, accepted_by, is_accepted, is_gone_by_in}
-use Rattle.run_meaning.specs.Echo.{echo_server}
 use Rattle.run_meaning.specs.Lines.{phase}
 use Rattle.run_meaning.specs.Settled.{Settled, is_reading}
 use Rattle.run_meaning.specs.Right.{Right}
 use Rattle.run_meaning.specs.Replies.{AreReplies, HasReplies}
 use Rattle.run_meaning.specs.Life.{LivedThroughout}
 use Rattle.schedule_text.specs.Report.{Link, link_line, report, IsLink}
+use Rattle.ws_program.specs.BusServer.{bus_server}
 
 -- the peer of the connection ends its stream by this act
 abbrev pub is_end_of : ℕ → Act → Bool
@@ -53,13 +53,13 @@ pub record IsNew (net : MemNetState) (old : NetState) : Type 0 where
 -- The notes, the net and what is held for each connection, with these texts of replies: all acts were done, the run is right, and
 -- all is settled.
 pub record IsReplayed (config : ConfigValue) (table : RouteTable) (acts : List Act) (notes : List NoteValue) (net : NetState) (held : ℕ → List ℕ) (replies : ℕ → List ℕ) : Type 0 where
-  pub right : Right (echo_server replies) config table notes net tt held
-  pub settled : Settled (echo_server replies) notes net (record { pending = 0; gathered = []; backlog = held })
+  pub right : Right (bus_server replies) config table notes net tt held
+  pub settled : Settled (bus_server replies) notes net (record { pending = 0; gathered = []; backlog = held })
   -- at the end of each turn, what was heard of each connection is what the octets say that were given until then
-  pub throughout : LivedThroughout (echo_server replies) table config.max_message notes net.given
+  pub throughout : LivedThroughout (bus_server replies) table config.max_message notes net.given
   -- a connection that is still read was given all of its octets, and no act ends them
-  pub given : (conn : ℕ) → is_reading (phase (echo_server replies) notes conn) ≡ true → net.given conn ≡ sent conn acts
-  pub unended : (conn : ℕ) → is_reading (phase (echo_server replies) notes conn) ≡ true → list_any (is_ending conn) acts ≡ false
+  pub given : (conn : ℕ) → is_reading (phase (bus_server replies) notes conn) ≡ true → net.given conn ≡ sent conn acts
+  pub unended : (conn : ℕ) → is_reading (phase (bus_server replies) notes conn) ≡ true → list_any (is_ending conn) acts ≡ false
   -- a connection is gone by the peer's end only where an act says so and all of its octets were given, and by a failed link only
   -- where an act says so
   pub ended : (conn : ℕ) → is_accepted conn notes ≡ true → is_gone_by_in conn PeerEnd notes ≡ true → (list_any (is_end_of conn) acts ≡ true) × (net.given conn ≡ sent conn acts)

@@ -4,7 +4,6 @@
 mod answers;
 mod commands;
 mod echo;
-mod echo_handler;
 mod reads;
 mod replay;
 mod report;

@@ -7,18 +7,17 @@ ghost use Rattle.link_trait.specs.Link.{TellsAlike};
 ghost use Rattle.mem_net.specs.MemNet.{FollowsSchedule};
 ghost use Rattle.ws_program.specs.Replayed.{is_turn_act};
 ghost use Rattle.schedule_text.specs.Reading.{IsText, IsRefused};
-ghost use Rattle.ws_program.specs.Replay.{ReplayEnds, RefusesAs, IsTaken, CanRun, HasRun, GivesAll, StopsReading, AnswersSchedule, AnswersText, echo_routes};
+ghost use Rattle.ws_program.specs.Replay.{ReplayEnds, RefusesAs, IsTaken, CanRun, HasRun, GivesAll, StopsReading, AnswersSchedule, AnswersText};
 ghost use Rattle.ws_program.specs.Streams.{streams};
 
-use crate::echo_handler::Echo;
 use crate::reads::MAX_READ;
 use crate::report::{links_in_range, report};
 use crate::status::Status;
+use bus_handler::Bus;
 use hub_core::Hub;
 use link_trait::{Act, Got, Outside, Sink, Source};
 use loop_runner::{Intakes, Ran, run};
 use mem_net::{MemNet, Schedule};
-use route_table::Routes;
 use schedule_text::{Fault, ReadFault, read};
 use std::alloc::{AllocError, Global};
 use ws_kinds::{Config, Recorder, Tally};
@@ -26,9 +25,9 @@ use ws_kinds::{Config, Recorder, Tally};
 /// The most octets that are read: one more than a schedule's text may have, which shows that it is too long.
 const MAX_INPUT: usize = 1_048_577;
 
-/// Reads the text of a schedule from the source, to its end, runs it over a net in memory with a handler that sends each
-/// message on the route `/echo` back, and writes the report of the run to the sink: the line of each note, in order, and
-/// then the line of each accepted connection's link, by ascending number.
+/// Reads the text of a schedule from the source, to its end, runs it over a net in memory with the built-in handler on its
+/// three routes, and writes the report of the run to the sink: the line of each note, in order, and then the line of each
+/// accepted connection's link, by ascending number.
 ///
 /// Nothing is written before the run has ended. It ends
 ///
@@ -125,12 +124,15 @@ fn run_schedule(alloc: Global, config: Config, schedule: Schedule) -> Result<Rep
     let turns = turns_of(schedule.acts()) as u64 + 1;
     let mut hub = Hub::new(alloc, config)?;
     let mut intakes = Intakes::new(alloc, config.max_message());
-    let routes = routes_of_echo(alloc)?;
+    let Ok(routes) = Bus::routes(alloc) else {
+        // For want of memory, which is the only fault.
+        return Err(AllocError);
+    };
     let net = MemNet::new(alloc, schedule)?;
     let watch = Recorder::new(alloc);
     let tally = Tally::new();
     let mut out = Outside { net, watch, tally };
-    let ran = run(&mut hub, &mut intakes, &routes, &mut out, &mut Echo, turns);
+    let ran = run(&mut hub, &mut intakes, &routes, &mut out, &mut Bus, turns);
     if !is_whole(&out.net, &out.watch) {
         return Err(AllocError);
     }
@@ -155,18 +157,6 @@ fn is_whole(net: &MemNet, watch: &Recorder) -> bool
 {
     let unbroken = net.whole();
     watch.count() > 0 && watch.whole() && unbroken
-}
-
-/// The routes of the command: `/echo` alone, without a subprotocol, as number 0.
-fn routes_of_echo(alloc: Global) -> Result<Routes, AllocError>
-    ensures { IfOk result (λ routes. routes ≡ echo_routes) }
-{
-    let mut routes = Routes::new(alloc);
-    match routes.add("/echo", b"") {
-        Ok(_) => Ok(routes),
-        // For want of memory: the table has no other route, and the pattern is one that it reads.
-        Err(_) => Err(AllocError),
-    }
 }
 
 /// How many of the acts are turns.

@@ -11,7 +11,6 @@ ghost use Rattle.link_trait.specs.declared.act.Act.{Act};
 ghost use Rattle.mem_net.specs.Acts.{passes};
 ghost use Rattle.mem_net.specs.MemNet.{MemNetState, FollowsSchedule, net_state};
 ghost use Rattle.route_table.specs.Table.{RouteTable};
-ghost use Rattle.run_meaning.specs.Echo.{echo_server};
 ghost use Rattle.run_meaning.specs.Life.{LivedThroughout};
 ghost use Rattle.run_meaning.specs.Lines.{plain};
 ghost use Rattle.run_meaning.specs.Settled.{Settled};
@@ -19,13 +18,14 @@ ghost use Rattle.run_meaning.specs.Right.{Right};
 ghost use Rattle.link_trait.specs.NetState.{NetState};
 ghost use Rattle.loop_runner.specs.declared.turns.Ran.TheVariants as ran;
 ghost use Rattle.loop_runner.specs.Turns.{Runs};
+ghost use Rattle.ws_program.specs.BusServer.{bus_server};
 ghost use Rattle.ws_program.specs.Replayed.{IsNew, IsReplayed, IsReport, links_of, is_stop, is_turn_act};
 
 /// A note sends at most one item to each connection, and the note of a turn none: so a connection has fewer items than there are
 /// notes, where the last note is that of a turn.
 pub fn items_are_few()
     ensures { (replies : ℕ → List ℕ) (notes front behind before : List NoteValue) → notes ≡ before ++ note.turn ∷ [] → length notes < 2 ^ 64 → notes ≡ front ++ behind →
-        (conn : ℕ) → length (plain (echo_server replies) front conn) < 2 ^ 64 - 1 }
+        (conn : ℕ) → length (plain (bus_server replies) front conn) < 2 ^ 64 - 1 }
 {}
 
 /// Where the answers of a net that follows its schedule end with Stop, and have no other, all acts were done, and the answers are
@@ -41,9 +41,9 @@ pub fn stopped()
 pub fn replayed()
     ensures { (config : ConfigValue) (table : RouteTable) (notes : List NoteValue) (net : MemNetState) (held replies : ℕ → List ℕ) →
         FollowsSchedule net → net.whole ≡ true → net.done ≡ length net.acts →
-        Right (echo_server replies) config table notes (net_state net) tt held →
-        LivedThroughout (echo_server replies) table config.max_message notes (net_state net).given →
-        Settled (echo_server replies) notes (net_state net) (record { pending = 0; gathered = []; backlog = held }) →
+        Right (bus_server replies) config table notes (net_state net) tt held →
+        LivedThroughout (bus_server replies) table config.max_message notes (net_state net).given →
+        Settled (bus_server replies) notes (net_state net) (record { pending = 0; gathered = []; backlog = held }) →
         IsReplayed config table net.acts notes (net_state net) held replies }
 {}
 

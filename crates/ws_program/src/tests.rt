@@ -1,5 +1,6 @@
 //! The commands, over sources and sinks in memory.
 
+mod bus;
 mod echo;
 mod replay;
 

@@ -23,14 +23,19 @@ pub enum Call<'a> {
     Failed,
     Ended,
     Lost,
-    /// Two orders: a message to this connection, and one to a connection that is not there.
-    Orders(Conn),
+    /// At most 16 orders.
+    Orders(&'a [Order<'a>]),
+    /// 65 orders: to subscribe to what is 1 to 65 times the octet 97. The last one is no topic.
+    Topics,
     Tick,
     Turn,
 }
 
 /// A message to a connection, and the answer to it.
 pub type Sending<'a> = (Conn, Kind, &'a [u8], Result<Kept, Why>);
+
+/// A message of a sender, if it has one, to a topic, and the answer to it.
+pub type Publication<'a> = (Option<Conn>, &'a [u8], Kind, &'a [u8], Result<u64, Why>);
 
 /// The connection that comes next, where one does.
 fn next_accepted<N: Net>(net: &mut N) -> Option<Conn>
@@ -112,25 +117,31 @@ fn close<N: Net, W: Watch>(hub: &mut Hub, out: &mut Outside<N, W>, conn: Conn, r
     }
 }
 
-/// Serves two orders of a connection: one to another one, and one to a connection that is not there.
-fn order<N: Net, W: Watch>(hub: &mut Hub, out: &mut Outside<N, W>, conn: Conn, to: Conn)
+/// Serves these orders of a connection, where they are at most 16.
+fn serve<N: Net, W: Watch>(hub: &mut Hub, out: &mut Outside<N, W>, conn: Conn, orders: &[Order<'_>])
     requires ties { Ties (at N.Net W.Watch hub.old out.old) }
     ensures ties { Ties (at N.Net W.Watch hub.new out.new) }
 {
-    let kind = Kind::Text;
-    let mut orders = Orders::new();
-    orders.push(Order::Send {
-        to,
-        kind,
-        body: b"hi",
-    });
-    let to = Conn(9);
-    orders.push(Order::Send {
-        to,
-        kind,
-        body: b"no",
-    });
-    hub.perform(out, conn, &orders);
+    match Orders::try_from(orders) {
+        Ok(orders) => hub.perform(out, conn, &orders),
+        Err(_) => {}
+    }
+}
+
+/// Subscribes a connection to each front of these octets, one after another.
+fn subscribe_to_fronts<N: Net, W: Watch>(
+    hub: &mut Hub,
+    out: &mut Outside<N, W>,
+    conn: Conn,
+    octets: &[u8],
+)
+    requires ties { Ties (at N.Net W.Watch hub.old out.old) }
+    ensures ties { Ties (at N.Net W.Watch hub.new out.new) }
+{
+    'walk: for last in 0..octets.len() {
+        let topic = &octets[..=last];
+        serve(hub, out, conn, &[Order::Subscribe { topic }]);
+    }
 }
 
 /// Makes a call, where its condition holds.
@@ -141,7 +152,8 @@ fn make<N: Net, W: Watch>(hub: &mut Hub, out: &mut Outside<N, W>, conn: Conn, ca
     match call {
         Call::Tick => return hub.tick(out),
         Call::Turn => return hub.end_turn(out),
-        Call::Orders(to) => return order(hub, out, conn, to),
+        Call::Orders(orders) => return serve(hub, out, conn, orders),
+        Call::Topics => return subscribe_to_fronts(hub, out, conn, &[97; 65]),
         _ => {}
     }
     match hub.phase(conn) {
@@ -178,6 +190,23 @@ pub fn first_other_answer<N: Net, W: Watch>(
 {
     'walk: for (place, (to, kind, body, answer)) in sends.iter().enumerate() {
         if hub.send(out, *to, *kind, body) != *answer {
+            return Some(place);
+        }
+    }
+    None
+}
+
+/// The place of the first publication that is answered otherwise.
+pub fn first_other_count<N: Net, W: Watch>(
+    hub: &mut Hub,
+    out: &mut Outside<N, W>,
+    publications: &[Publication<'_>],
+) -> Option<usize>
+    requires ties { Ties (at N.Net W.Watch hub.old out.old) }
+    ensures ties { Ties (at N.Net W.Watch hub.new out.new) }
+{
+    'walk: for (place, (from, topic, kind, body, answer)) in publications.iter().enumerate() {
+        if hub.publish(out, *from, topic, *kind, body) != *answer {
             return Some(place);
         }
     }

@@ -8,7 +8,7 @@ use crate::Hub;
 use link_trait::{Act, Outside};
 use mem_net::{MemNet, Schedule};
 use std::test::*;
-use ws_kinds::{Config, Conn, Left, Note, Recorder, Tally, Watch};
+use ws_kinds::{Config, Conn, Kind, Left, Note, Order, Recorder, Tally, Watch, Why};
 
 fn is_plain(act: &Act) -> bool
     ensures { result ≡ spec.is_plain act.now }
@@ -94,6 +94,27 @@ pub fn opened(conn: Conn) -> Note<'static> {
 /// The note that a connection is gone.
 pub fn gone(conn: Conn, left: Left) -> Note<'static> {
     Note::Gone { conn, left }
+}
+
+/// The note that an order is not served.
+pub fn unserved(conn: Conn, order: u8, why: Why) -> Note<'static> {
+    Note::Unserved { conn, order, why }
+}
+
+/// The order to subscribe to a topic.
+pub fn subscribe(topic: &'static [u8]) -> Order<'static> {
+    Order::Subscribe { topic }
+}
+
+/// The order to unsubscribe from a topic.
+pub fn unsubscribe(topic: &'static [u8]) -> Order<'static> {
+    Order::Unsubscribe { topic }
+}
+
+/// The order to publish a text.
+pub fn publish(topic: &'static [u8], body: &'static [u8]) -> Order<'static> {
+    let kind = Kind::Text;
+    Order::Publish { topic, kind, body }
 }
 
 /// Whether the next Closed event is of this connection, with this code and this reason.

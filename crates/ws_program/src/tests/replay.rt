@@ -19,7 +19,7 @@ const SECOND: &[u8] =
     b"bsocket\r\nConnection: Upgrade\r\nSec-WebSocket-Key: dGhlIHNhbXBsZSBub25jZQ==\r\nSec-WebSocket-Version: 13\r\n";
 
 /// The reply to it.
-const REPLY: &[u8] =
+pub(super) const REPLY: &[u8] =
     b"HTTP/1.1 101 Switching Protocols\r\nUpgrade: websocket\r\nConnection: Upgrade\r\nSec-WebSocket-Accept: s3pPLMBiTxaQ9kYGzzhZRbK+xOo=\r\n\r\n";
 
 /// The same head with an older version of the protocol, and with a path that is no route.
@@ -44,11 +44,15 @@ const FIELDS: usize = 5;
 
 /// Which lines of a report are compared.
 #[derive(Clone, Copy)]
-enum Lines<'a> {
+pub(super) enum Lines<'a> {
     /// All but those of what a link took in one write.
     Whole,
     /// All of these but those of links.
     Notes,
+    /// Those of orders that were not served, of connections that left, and of links.
+    Orders,
+    /// Those of what a link took in one write.
+    Writes,
     /// Those of what was heard of the connection with these digits, and of its link.
     Heard(&'a [u8]),
 }
@@ -65,6 +69,8 @@ fn is_compared(lines: Lines<'_>, line: &[u8]) -> bool {
     match lines {
         Lines::Whole => !is_among(word, &[b"took"]),
         Lines::Notes => !is_among(word, &[b"took", b"link"]),
+        Lines::Orders => is_among(word, &[b"unserved", b"closed", b"gone", b"link"]),
+        Lines::Writes => is_among(word, &[b"took"]),
         Lines::Heard(conn) => {
             words.next() == Some(conn) && !is_among(word, &[b"took", b"given", b"accept"])
         }
@@ -88,7 +94,7 @@ fn hex_digit(value: u8) -> char {
 }
 
 /// Octets as a schedule and a report have them.
-fn hex_of(rt: &HostRuntime, octets: &[u8]) -> Result<String, Fail> {
+pub(super) fn hex_of(rt: &HostRuntime, octets: &[u8]) -> Result<String, Fail> {
     let mut digits = String::new(rt.alloc());
     for octet in octets {
         digits.push(hex_digit(octet >> 4))?;
@@ -169,7 +175,7 @@ fn run(
 }
 
 /// These lines of the report of a schedule, whose text stands here behind its header.
-fn report_of(
+pub(super) fn report_of(
     rt: &HostRuntime,
     config: Config,
     lines: Lines<'_>,

@@ -5,14 +5,14 @@ pub walk-init : goal.walk-init
 walk-init g c = record {
   ties = c.requires.ties;
   named = refl;
-  finishing = rw (← c.self.view_is) (none_at_zero _ (g.N.Net.state c.args.out.now.net) (g.W.Watch.told c.args.out.now.watch) c.self.invariant);
+  finishing = rw (← c.self.view_is) (none_at_zero _ (g.N.Net.state c.args.out.now.net) (g.W.Watch.told c.args.out.now.watch) c.self.invariant.table);
 }
 
 pub walk-preserved : goal.walk-preserved
 walk-preserved g c =
     let next = c.in-Some.ensures in
     let ending : (entry_at c.walk.self c.in-Some.conn.0).phase ≡ Ending = ap (λ (z : HubState). (entry_at z c.in-Some.conn.0).phase) (sym c.self-in-walk.view_is) ∙ next.1 in
-    let known : c.in-Some.conn.0 ≤ c.walk.self.named = is_known c.walk.self c.in-Some.conn.0 (subst (λ (z : HubState). IsTable (table_of z)) c.self-in-walk.view_is c.self-in-walk.invariant) ending in
+    let known : c.in-Some.conn.0 ≤ c.walk.self.named = is_known c.walk.self c.in-Some.conn.0 (subst (λ (z : HubState). IsTable (table_of z)) c.self-in-walk.view_is c.self-in-walk.invariant.table) ending in
     record {
       ties = c.finish.ensures.ties;
       named = c.finish.ensures.named ∙ c.walk.invariant.named;

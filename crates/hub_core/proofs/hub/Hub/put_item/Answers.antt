@@ -1,10 +1,10 @@
-use Rattle.hub_core.proofs.All.{refl, server, entry_of, PutsItem, hub_of, plain_change, told_put}
+use Rattle.hub_core.proofs.All.{refl, server, entry_of, PutsItem, hub_of, table_change, told_put}
 use Rattle.hub_core.proofs.hub.Hub.put_item.Goals as goal
 
 pub returns : goal.returns
 returns g c =
     let e = c.put_frame.ensures in
-    let p : PutsItem c.args.conn.0 c.args.item c.put_frame.result (server (hub_of c.self.inside.table) (g.N.Net.state c.args.out.now.net) (g.W.Watch.told c.args.out.now.watch)) (server (hub_of c.put_frame.new.self) (g.N.Net.state c.put_frame.new.out.net) (g.W.Watch.told c.put_frame.new.out.watch)) =
+    let p : PutsItem c.args.conn.0 c.args.item c.put_frame.result (server (hub_of c.self.inside.table c.self.inside.topics) (g.N.Net.state c.args.out.now.net) (g.W.Watch.told c.args.out.now.watch)) (server (hub_of c.put_frame.new.self c.self.inside.topics) (g.N.Net.state c.put_frame.new.out.net) (g.W.Watch.told c.put_frame.new.out.watch)) =
     record {
       moves = e.moves;
       others = e.others;
@@ -23,7 +23,7 @@ returns g c =
       tells = told_put c.put_frame.result (entry_of c.put_frame.new.self.entries c.args.conn.0).ring e.kept;
       before = refl;
       after = refl;
-      elsewhere = plain_change c.args.conn.0 c.self.inside.table c.put_frame.new.self e.elsewhere;
+      elsewhere = table_change c.self.inside.topics e.elsewhere;
       table = e.table;
     } in
     rw (← c.self.view_is) p

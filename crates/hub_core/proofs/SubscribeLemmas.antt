@@ -1,0 +1,97 @@
+-- Subscriptions that begin and end.
+use Rattle.hub_core.proofs.Below.{◌≡◌, ◌≤◌, ℕ, List, [], ◌∷◌, Option, Some, None, Bool, true, false, cond, not, ◌&&◌, nat_eq, length, refl, sym, ap, ◌∙◌, NoteValue, NetState, Why, server, entry_of, no_entry, is_gone, Progress, progress_at, standings_at, clash, by_cases, falsely, TableState, hub_of, nat_le, ◌⊎◌, inl, inr, MayRefuse, for_reason, for_memory, arith, nat_tests, NotOpen, BadTopic, Forbidden, TooMany, Memory, OrderValue, has_topic, ChangesTopics, is_open, every_topic, frames_of, Standing, first_reason, is_bad_topic, why_at, why_subscribe, why_unsubscribe, Ties, progress_obeys, Obeys, changed, IsHub, ServesOrder}
+use Rattle.hub_core.proofs.StateLemmas.{plain_change, topics_elsewhere}
+use Rattle.hub_core.proofs.CallLemmas.{Forgets, appends_forgotten}
+use Rattle.hub_core.proofs.OrderLemmas.{open_alone}
+use Rattle.hub_core.proofs.StandLemmas.{present_open}
+
+-- ---- the reasons
+
+no_reason : (off bad : Bool) → first_reason ((not off, NotOpen) ∷ (bad, BadTopic) ∷ []) ≡ None → (off ≡ true) × (bad ≡ false)
+no_reason true false e = (refl, refl)
+no_reason false bad e = absurd (let h = e in cc)
+no_reason true true e = absurd (let h = e in cc)
+
+-- what is a topic, of a connection that is open
+pub fits : (own : Standing) (topic : List ℕ) → why_unsubscribe own.phase topic ≡ None → (is_open own.phase ≡ true) × (is_bad_topic topic ≡ false)
+fits own topic none = no_reason (is_open own.phase) (is_bad_topic topic) none
+
+-- may be subscribed to, unless there are as many
+pub subscribe_fits : (own : Standing) (topic : List ℕ) → why_unsubscribe own.phase topic ≡ None
+    → why_subscribe every_topic own topic ≡ cond (not (has_topic topic own.topics) && nat_le 64 (length own.topics)) (Some TooMany) None
+subscribe_fits own topic none =
+    let f = fits own topic none in one (is_open own.phase) (is_bad_topic topic) (not (has_topic topic own.topics) && nat_le 64 (length own.topics)) f.0 f.1
+  where
+    one : (off bad many : Bool) → off ≡ true → bad ≡ false → first_reason ((not off, NotOpen) ∷ (bad, BadTopic) ∷ (false, Forbidden) ∷ (many, TooMany) ∷ []) ≡ cond many (Some TooMany) None
+    one true false true o b = refl
+    one true false false o b = refl
+    one false bad many o b = clash false refl o
+    one true true many o b = clash true b refl
+
+-- and what is refused so is refused to subscribe to
+pub subscribe_refused : (own : Standing) (topic : List ℕ) (why : Why) → why_unsubscribe own.phase topic ≡ Some why → why_subscribe every_topic own topic ≡ Some why
+subscribe_refused own topic why e = one (is_open own.phase) (is_bad_topic topic) (not (has_topic topic own.topics) && nat_le 64 (length own.topics)) e
+  where
+    one : (off bad many : Bool) → first_reason ((not off, NotOpen) ∷ (bad, BadTopic) ∷ []) ≡ Some why → first_reason ((not off, NotOpen) ∷ (bad, BadTopic) ∷ (false, Forbidden) ∷ (many, TooMany) ∷ []) ≡ Some why
+    one false bad many h = h
+    one true true many h = h
+    one true false many h = absurd (let z = h in cc)
+
+-- ---- who is too many
+
+pub many_is : (has : Bool) (count : ℕ) → has ≡ false → 64 ≤ count → (not has && nat_le 64 count) ≡ true
+many_is has count e l = ap (λ (z : Bool). not z && nat_le 64 count) e ∙ grind (arith, nat_tests)
+
+pub many_not : (has : Bool) (count : ℕ) → ((has ≡ false) × (64 ≤ count) → ⊥) → (not has && nat_le 64 count) ≡ false
+many_not has count other = by_cases has (λ e. ap (λ (z : Bool). not z && nat_le 64 count) e) (λ e. by_cases (nat_le 64 count)
+    (λ l. absurd (other (e, grind (arith, nat_tests))))
+    (λ l. ap (λ (z : Bool). not has && z) l ∙ one (not has)))
+  where
+    one : (b : Bool) → (b && false) ≡ false
+    one true = refl
+    one false = refl
+
+-- a subscription that is not stored is refused for its reason, or for want of memory
+pub subscribe_unstored : (own : Standing) (topic : List ℕ) (why : Why) → why_unsubscribe own.phase topic ≡ None → (why ≡ TooMany) ⊎ (why ≡ Memory)
+    → (why ≡ TooMany → (has_topic topic own.topics ≡ false) × (64 ≤ length own.topics)) → ((has_topic topic own.topics ≡ false) × (64 ≤ length own.topics) → why ≡ TooMany) → (why ≡ Memory → has_topic topic own.topics ≡ false)
+    → MayRefuse (why_subscribe every_topic own topic) (not (has_topic topic own.topics)) why
+subscribe_unstored own topic why none (inl many) are_many only_many memory =
+    let both = are_many many in
+    for_reason (subscribe_fits own topic none ∙ ap (λ (z : Bool). cond z (Some TooMany) None) (many_is (has_topic topic own.topics) (length own.topics) both.0 both.1) ∙ ap Some (sym many))
+subscribe_unstored own topic why none (inr stored) are_many only_many memory =
+    for_memory (subscribe_fits own topic none ∙ ap (λ (z : Bool). cond z (Some TooMany) None) (many_not (has_topic topic own.topics) (length own.topics) (λ both. let h : TooMany ≡ Memory = sym (only_many both) ∙ stored in cc)))
+    (ap not (memory stored)) stored
+
+-- ---- the topics of one connection change
+
+module _ (a : TableState) (p q : List (ℕ × List ℕ)) (net : NetState) (t : Option (List NoteValue)) (c number : ℕ) (order : OrderValue) (f : List (List ℕ) → List (List ℕ))
+    (whole : IsHub a p) (opened : is_open (standings_at (hub_of a p) c).phase ≡ true) (changes : ChangesTopics c f p q)
+    (obeys : (d : ℕ) (x : Progress) → progress_obeys c d order x ≡ cond (nat_eq c d) (record { phase = x.phase; topics = f x.topics; due = x.due }) x) where
+  forgets : Forgets c (hub_of a p) (hub_of a q)
+  forgets = record {
+    entry = sym (ap (λ (z : Bool). cond z no_entry (entry_of a.entries c)) (falsely (is_gone (entry_of a.entries c).phase) (present_open (hub_of a p) c opened)));
+    cork = refl;
+    pending = refl;
+    change = plain_change p q (record { config = refl; named = refl; entries = λ x ne. refl; due = λ x ne. refl }) (topics_elsewhere c f p q changes);
+  }
+
+  progress_changed : (d : ℕ) → progress_at (hub_of a q) d ≡ progress_obeys c d order (progress_at (hub_of a p) d)
+  progress_changed d = ap (λ (z : List (List ℕ)). record { phase = (progress_at (hub_of a p) d).phase; topics = z; due = (progress_at (hub_of a p) d).due }) (changes d) ∙ one (nat_eq c d) ∙ sym (obeys d (progress_at (hub_of a p) d))
+    where
+      x : Progress
+      x = progress_at (hub_of a p) d
+
+      one : (own : Bool) → record { phase = x.phase; topics = cond own (f x.topics) x.topics; due = x.due } ≡ cond own (record { phase = x.phase; topics = f x.topics; due = x.due }) x
+      one true = refl
+      one false = refl
+
+  obeyed : Obeys c order (server (hub_of a p) net t) (server (hub_of a q) net t)
+  obeyed = record { progress = progress_changed; tells = λ d. refl; counts = λ d there. (there, refl); net = refl; told = refl; appends = appends_forgotten forgets net t }
+
+  pub topics_served : frames_of order ≡ [] → why_at a.config every_topic c (standings_at (hub_of a p)) order ≡ None → Ties (server (hub_of a p) net t) → ServesOrder c number order (server (hub_of a p) net t) (server (hub_of a q) net t)
+  topics_served no_frame none ties = record {
+    ties = ties;
+    serves = changed a.config every_topic c number (server (hub_of a p) net t) (server (hub_of a q) net t) order no_frame none (open_alone a p net t whole) obeyed;
+    named = refl;
+    table = whole.table;
+  }

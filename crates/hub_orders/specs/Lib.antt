@@ -1,4 +1,0 @@
-pub mod Publishing
-pub mod Closing
-pub mod AnyOrders
-pub mod All
