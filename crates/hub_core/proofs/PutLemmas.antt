@@ -9,11 +9,11 @@ use Rattle.hub_core.proofs.StateLemmas.{phase_there, phase_twice, is_there, prog
 use Rattle.hub_core.proofs.NoteLemmas.{counts_changed}
 
 -- no item is dropped as long as nothing is held back
-pub told_put : (kept : Kept) (ring : List ℕ) → TellsRing kept ring → nothing_told ≡ tell_after kept nothing_told
-told_put Clear ring e = refl
-told_put (Backlog held) ring e = refl
-told_put (Dropped held) ring e = absurd e
-told_put Failed ring e = refl
+pub told_put : (limit : ℕ) (kept : Kept) (ring : List ℕ) → ring ≡ [] → TellsRing limit kept ring → nothing_told ≡ tell_after kept nothing_told
+told_put limit Clear ring none e = refl
+told_put limit (Backlog held) ring none e = refl
+told_put limit (Dropped held) ring none e = absurd (let less = e.0 in let is = e.1 in let zero = ap length none in omega arith)
+told_put limit Failed ring none e = refl
 
 module _ {c : ℕ} {item : Item} {kept : Kept} {a b : Server} (p : PutsItem c item kept a b) where
   -- ---- whatever the answer
@@ -136,7 +136,7 @@ module _ {c : ℕ} {item : Item} {kept : Kept} {a b : Server} (p : PutsItem c it
 
   -- ---- no write failed
 
-  whole_of : (kept : Kept) → kept ≢ Failed → TellsFailure kept c a.net b.net a.told b.told → LeavesLinkWhole c a.net b.net
+  whole_of : (kept : Kept) → kept ≢ Failed → TellsFailure kept c a.net b.net → LeavesLinkWhole c a.net b.net
   whole_of Clear ok f = f
   whole_of (Backlog held) ok f = f
   whole_of (Dropped held) ok f = f
@@ -223,10 +223,10 @@ module _ {c : ℕ} {item : Item} {kept : Kept} {a b : Server} (p : PutsItem c it
     waits = put_waits;
   }
 
-  tells_of : (kept : Kept) → kept ≢ Failed → is_present b.hub c ≡ true → TellsRing kept (entry_at b.hub c).ring → TellsPut kept c b.hub
+  tells_of : (kept : Kept) → kept ≢ Failed → is_present b.hub c ≡ true → TellsRing a.hub.config.limit kept (entry_at b.hub c).ring → TellsPut kept c b.hub
   tells_of Clear ok is t = (is, t)
   tells_of (Backlog held) ok is t = (is, t.0, t.1)
-  tells_of (Dropped held) ok is t = absurd t
+  tells_of (Dropped held) ok is t = (is, subst (λ (z : ℕ). z < held) (sym (ap (λ z. z.limit) p.elsewhere.table.config)) t.0, t.1)
   tells_of Failed ok is t = absurd (ok refl)
 
   -- what is answered

@@ -20,7 +20,7 @@ pub use Rattle.run_meaning.specs.All.{dropped_by, dropped_of, gather, has_number
 pub use Rattle.hub_lines.specs.All.{Beside, KeepsLine, SameElsewhere, SameLinesElsewhere, ShortRings, Starts, Ties, is_sender, nothing, only, part_below, published, receives, served, then_also, FailsWithin, TakesAll, TakesFront, is_droppable, joined, Held, IsCounted, Stands, StandsFor, held_at, held_octets, Moves, Others, buffered_at, with_pending, Entry, HubState, PartingValue, Server, TellingValue, cork_at, entry_at, entry_of, has_entry, is_gone, is_present, new_entry, no_entry, numbered_at, pending_at, phase_at, ring_at, server, ShortWhereHeld, drops, fell_short, is_dropped, is_silent, short_after, short_from, taken_of}
 pub use Rattle.hub_notes.specs.All.{Arrives, Makes, has_frames, Advances, Appends, Proceeds, KeepsFront, KeepsFronts, RingsWait, SameDrops, items_at, FailsAfter, NetAfter, RoseBy, TrafficAfter, Progress, due_at, due_of, may_all_come, may_come, may_leave_by, progress_after, progress_after_all, progress_at, progress_by, progress_obeys, standings_at, topics_at, CountsBeside, CountsBy, SameCounts, count_of, counts_at, leaves_at, Obeys, Serves, ServesAll, ChangesOne, IsTable, TableState, TakesDue, due_when_gone, is_kept, table_of, TellsBy, held_in, tell_at, tell_of, EndsTurn, FinishesIfEmpty, FinishesOne, Rise, finishes}
 pub use Rattle.hub_notes.specs.declared.arrival.Arrival.TheVariants.{Taken}
-pub use Rattle.socket_core.specs.All.{IsSent, can_drop, octets_of, LeavesLinkWhole, TellsFailure, TellsRing, drops_in}
+pub use Rattle.socket_core.specs.All.{IsSent, can_drop, octets_of, LeavesLinkWhole, PassesOctets, TellsFailure, TellsRing, drops_in}
 pub use Rattle.socket_core.specs.declared.item.Item.{Item as Puttable}
 pub use Rattle.socket_core.specs.declared.item.Item.TheVariants.{Frame, Reply, Spelled}
 pub use Rattle.socket_core.specs.declared.socket.Kept.{Kept}

@@ -50,8 +50,8 @@ pub record PutsItem (conn : ℕ) (item : Puttable) (kept : Kept) (old new : Serv
   pub offers : OffersNoted kept conn old.net new.net old.told new.told
   pub front : kept ≡ Failed → FailsWithin conn (octets_of item ∷ []) (buffered_at old.hub conn) old.net new.net old.told new.told
   pub short : kept ≢ Failed → ShortWhereHeld conn (ring_at old.hub conn) old.told → ShortWhereHeld conn (ring_at new.hub conn) new.told
-  pub kept_is : TellsRing kept (ring_at new.hub conn)
-  pub failed : TellsFailure kept conn old.net new.net old.told new.told
+  pub kept_is : TellsRing old.hub.config.limit kept (ring_at new.hub conn)
+  pub failed : TellsFailure kept conn old.net new.net
   pub net : KeepsNet conn old.net new.net
   pub numbered : numbered_at new.hub conn ≡ min (numbered_at old.hub conn + 1) (2 ^ 64 - 1)
   pub waits : ring_at new.hub conn ≢ [] → new.net.writable conn ≡ false

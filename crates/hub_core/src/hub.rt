@@ -129,8 +129,8 @@ impl Hub {
         self.table.is_full()
     }
 
-    /// Says that nothing is in a ring, as long as each frame is written by itself when it is put. This is a law, and calls for
-    /// nothing to be done.
+    /// Says that nothing is in a ring, as long as each link takes all that it is offered. This is a law, and calls for nothing to be
+    /// done.
     pub fn no_rings(&self)
         ensures { (conn : ℕ) → ring_at self.now conn ≡ [] }
     {

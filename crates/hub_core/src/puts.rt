@@ -46,6 +46,7 @@ impl Hub {
         requires { MayPut conn.0 item (at N.Net W.Watch self.old out.old) }
         ensures { PutsItem conn.0 item.entry result (at N.Net W.Watch self.old out.old) (at N.Net W.Watch self.new out.new) }
     {
+        self.table.no_rings();
         self.table.put_frame(out, conn, item)
     }
 

@@ -11,5 +11,5 @@ pub use Rattle.hub_lines.specs.Indices.{AreBelow, AreStored, Pointed, frame_at, 
 pub use Rattle.hub_lines.specs.Items.{CanDropLast, can_drop, is_droppable, item_at, joined, kept}
 pub use Rattle.hub_lines.specs.Lines.{AreFairNotes, Fair, FairFor, FairTold, Held, IsCounted, IsFairDrop, IsFairNote, Stands, StandsFor, StandsTold, held_at, held_octets, line}
 pub use Rattle.hub_lines.specs.Moves.{Buffered, Moves, Others, buffered_at, buffered_of, with_pending}
-pub use Rattle.hub_lines.specs.State.{AreConfigured, Entry, HubState, PartingValue, Pending, Quiet, Server, TellingValue, cork_at, entry_at, entry_of, frames_of, has_entry, held_by, is_gone, is_present, new_entry, no_entry, numbered_at, pending_at, phase_at, place_of, ring_at, server}
+pub use Rattle.hub_lines.specs.State.{AreConfigured, Entry, HubState, PartingValue, Pending, Quiet, Server, TellingValue, cork_at, entry_at, entry_of, frames_of, has_entry, held_by, is_gone, is_present, most_held, most_held_in, new_entry, no_entry, numbered_at, pending_at, phase_at, place_of, ring_at, server}
 pub use Rattle.hub_lines.specs.Told.{ShortWhereHeld, WritesAreNoted, drops, fell_short, is_dropped, is_silent, short_after, short_from, taken_of, took_by, took_sum, writes, writes_by}

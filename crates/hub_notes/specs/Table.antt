@@ -4,7 +4,7 @@ use Rattle.ws_kinds.specs.declared.note.Phase.{Phase}
 use Rattle.ws_kinds.specs.declared.note.Phase.TheVariants.{Head, Ending}
 use Rattle.ws_kinds.specs.ConfigValue.{ConfigValue}
 use Rattle.run_meaning.specs.Lines.{is_open}
-use Rattle.hub_lines.specs.State.{HubState, Entry, PartingValue, no_entry, entry_of, has_entry, is_gone}
+use Rattle.hub_lines.specs.State.{HubState, Entry, PartingValue, no_entry, entry_of, has_entry, is_gone, most_held_in}
 use Rattle.hub_notes.specs.Progress.{due_of}
 
 pub record TableState : Type 0 where
@@ -46,6 +46,9 @@ pub record IsTable (table : TableState) : Type 0 where
   pub config : (conn : ℕ) → has_entry table.entries conn ≡ true → (entry_of table.entries conn).config ≡ table.config
   -- what is held for a connection that is gone is discarded
   pub gone : (conn : ℕ) → is_gone (entry_of table.entries conn).phase ≡ true → (entry_of table.entries conn).ring ≡ []
+  -- and what is held for one that is not has a bound; nothing is held where nothing was put
+  pub bound : (conn : ℕ) → length (entry_of table.entries conn).ring ≤ most_held_in table.config (entry_of table.entries conn).phase
+  pub unused : (conn : ℕ) → (entry_of table.entries conn).numbered ≡ 0 → (entry_of table.entries conn).ring ≡ []
   -- nothing was put for a connection in phase Head
   pub heads : (conn : ℕ) → (entry_of table.entries conn).phase ≡ Head → (entry_of table.entries conn).numbered ≡ 0
 

@@ -1,5 +1,6 @@
 -- What each change of one connection makes of the table.
-use Rattle.hub_table.proofs.Below.{◌≡◌, ◌≢◌, ◌<◌, ℕ, List, [], ◌∷◌, ◌++◌, Option, Some, None, Bool, true, false, if◌then◌else◌, not, length, refl, sym, ap, ◌∙◌, subst, length-append, arith, is_some, option_map, Phase, Head, Open, Leaving, Ending, Gone, ConfigValue, is_open, Entry, PartingValue, no_entry, new_entry, has_entry, entry_of, is_gone, present_entry, due_of, can_enter, Connection, Parting, parting_value, AreRising, ChangesOne, TakesDue, due_when_gone, no_connection, connection_of, replaced, without, entries_of, put_before, partings_of, cause, with_socket, entered, parted, told, IsOwn, IsConnection, AreKept, table_state}
+use Rattle.socket_core.specs.Phases.{entered as goes_on}
+use Rattle.hub_table.proofs.Below.{◌≤◌, ◌+◌, most_held, most_held_in, ◌≡◌, ◌≢◌, ◌<◌, ℕ, List, [], ◌∷◌, ◌++◌, Option, Some, None, Bool, true, false, if◌then◌else◌, not, length, refl, sym, ap, ◌∙◌, subst, length-append, arith, is_some, option_map, Phase, Head, Open, Leaving, Ending, Gone, ConfigValue, is_open, Entry, PartingValue, no_entry, new_entry, has_entry, entry_of, is_gone, present_entry, due_of, can_enter, Connection, Parting, parting_value, AreRising, ChangesOne, TakesDue, due_when_gone, no_connection, connection_of, replaced, without, entries_of, put_before, partings_of, cause, with_socket, entered, parted, told, IsOwn, IsConnection, AreKept, table_state}
 use Rattle.hub_table.proofs.ConnectionLemmas.{Becomes, becomes_replaced, becomes_without, entry_becomes, due_becomes, changes_one, each_of, each_added, rising_last, entries_added, length_entries, entry_is, due_is, own_number, there_replaced}
 use Rattle.hub_table.proofs.IndexLemmas.{IsFirstDue}
 
@@ -32,36 +33,115 @@ there_by_phase es c e = present_entry es c (ap not e)
 
 -- ---- the changes
 
+-- what may be held for a connection grows from phase to phase
+most_grows : (g : ConfigValue) (q p : Phase) → can_enter q p ≡ true → is_gone p ≡ false → most_held_in g q ≤ most_held_in g p
+most_grows g Head Head step there = absurd (let z : false ≡ true = step in cc)
+most_grows g Head Open step there = omega arith
+most_grows g Head Leaving step there = absurd (let z : false ≡ true = step in cc)
+most_grows g Head Ending step there = omega arith
+most_grows g Head Gone step there = absurd (let z : true ≡ false = there in cc)
+most_grows g Open Head step there = absurd (let z : false ≡ true = step in cc)
+most_grows g Open Open step there = absurd (let z : false ≡ true = step in cc)
+most_grows g Open Leaving step there = omega arith
+most_grows g Open Ending step there = omega arith
+most_grows g Open Gone step there = absurd (let z : true ≡ false = there in cc)
+most_grows g Leaving Head step there = absurd (let z : false ≡ true = step in cc)
+most_grows g Leaving Open step there = absurd (let z : false ≡ true = step in cc)
+most_grows g Leaving Leaving step there = absurd (let z : false ≡ true = step in cc)
+most_grows g Leaving Ending step there = omega arith
+most_grows g Leaving Gone step there = absurd (let z : true ≡ false = there in cc)
+most_grows g Ending Head step there = absurd (let z : false ≡ true = step in cc)
+most_grows g Ending Open step there = absurd (let z : false ≡ true = step in cc)
+most_grows g Ending Leaving step there = absurd (let z : false ≡ true = step in cc)
+most_grows g Ending Ending step there = absurd (let z : false ≡ true = step in cc)
+most_grows g Ending Gone step there = absurd (let z : true ≡ false = there in cc)
+most_grows g Gone Head step there = absurd (let z : false ≡ true = step in cc)
+most_grows g Gone Open step there = absurd (let z : false ≡ true = step in cc)
+most_grows g Gone Leaving step there = absurd (let z : false ≡ true = step in cc)
+most_grows g Gone Ending step there = absurd (let z : false ≡ true = step in cc)
+most_grows g Gone Gone step there = absurd (let z : true ≡ false = there in cc)
+
+pub most_in : (g : ConfigValue) (p : Phase) → most_held_in g p ≤ most_held g
+most_in g Head = omega arith
+most_in g Open = omega arith
+most_in g Leaving = omega arith
+most_in g Ending = omega arith
+most_in g Gone = omega arith
+
+-- where nothing was held back, nothing is once the link was offered it
+pub left_none : (ring left : List ℕ) → ring ≡ [] → length left ≤ length ring + 0 → left ≡ []
+left_none ring [] none bound = refl
+left_none ring (x ∷ left) none bound = absurd (let e = ap length none in omega arith)
+
+entered_bound : (g : ConfigValue) (q p : Phase) (ring : List ℕ) (b : Bool) → b ≡ is_gone p → can_enter q p ≡ true → length ring ≤ most_held_in g q → length (if b then [] else ring) ≤ most_held_in g p
+entered_bound g q p ring true e step bound = omega arith
+entered_bound g q p ring false e step bound = let more = most_grows g q p step (sym e) in omega arith
+
+entered_gone : (ring : List ℕ) (b : Bool) → b ≡ true → (if b then [] else ring) ≡ []
+entered_gone ring true e = refl
+entered_gone ring false e = absurd (cc)
+
+entered_unused : (ring : List ℕ) (b : Bool) → ring ≡ [] → (if b then [] else ring) ≡ []
+entered_unused ring true e = refl
+entered_unused ring false e = e
+
 becomes_by : (g : ConfigValue) (n c : ℕ) (xs ys : List Connection) (y : Connection) → AreKept g n xs → has_entry (entries_of xs) c ≡ true → y.socket.conn ≡ c → IsConnection g n y → ys ≡ replaced xs c y → Becomes g n c xs ys y
 becomes_by g n c xs ys y k there own each e = subst (λ w. Becomes g n c xs w y) (sym e) (becomes_replaced g n c xs y k there own each)
 
-pub becomes_entered : {g : ConfigValue} {n : ℕ} {xs ys : List Connection} (c : ℕ) (p : Phase) → AreKept g n xs → has_entry (entries_of xs) c ≡ true → p ≢ Head → (is_gone p ≡ true → is_some (connection_of xs c).closed ≡ true)
+pub becomes_entered : {g : ConfigValue} {n : ℕ} {xs ys : List Connection} (c : ℕ) (p : Phase) → AreKept g n xs → has_entry (entries_of xs) c ≡ true → can_enter (connection_of xs c).socket.phase p ≡ true → p ≢ Head → (is_gone p ≡ true → is_some (connection_of xs c).closed ≡ true)
     → ys ≡ replaced xs c (entered (connection_of xs c) p) → Becomes g n c xs ys (entered (connection_of xs c) p)
-becomes_entered {g} {n} {xs} {ys} c p k there head due e =
+becomes_entered {g} {n} {xs} {ys} c p k there step head due e =
     let was = each_of g n xs c k.each there in
     becomes_by g n c xs ys (entered (connection_of xs c) p) k there (own_number xs c there)
-    (record { first = was.first; among = was.among; config = was.config; head = λ h. absurd (head h); own = was.own; due = due; ring = was.ring; quiet = was.quiet }) e
+    (record {
+      first = was.first;
+      among = was.among;
+      config = was.config;
+      head = λ h. absurd (head h);
+      own = was.own;
+      due = due;
+      bound = entered_bound g (connection_of xs c).socket.phase p (connection_of xs c).socket.ring (is_gone p) refl step was.bound;
+      gone = entered_gone (connection_of xs c).socket.ring (is_gone p);
+      unused = λ none. entered_unused (connection_of xs c).socket.ring (is_gone p) (was.unused none);
+      ring = entered_unused (connection_of xs c).socket.ring (is_gone p) was.ring;
+      quiet = was.quiet;
+    }) e
 
-pub becomes_parted : {g : ConfigValue} {n : ℕ} {xs ys : List Connection} (c : ℕ) (p : Phase) (m : Parting) → AreKept g n xs → has_entry (entries_of xs) c ≡ true → p ≢ Head → m.conn.0 ≡ c
+pub becomes_parted : {g : ConfigValue} {n : ℕ} {xs ys : List Connection} (c : ℕ) (p : Phase) (m : Parting) → AreKept g n xs → has_entry (entries_of xs) c ≡ true → can_enter (connection_of xs c).socket.phase p ≡ true → p ≢ Head → m.conn.0 ≡ c
     → ys ≡ replaced xs c (parted (connection_of xs c) p m) → Becomes g n c xs ys (parted (connection_of xs c) p m)
-becomes_parted {g} {n} {xs} {ys} c p m k there head own e =
+becomes_parted {g} {n} {xs} {ys} c p m k there step head own e =
     let was = each_of g n xs c k.each there in
     becomes_by g n c xs ys (parted (connection_of xs c) p m) k there (own_number xs c there)
-    (record { first = was.first; among = was.among; config = was.config; head = λ h. absurd (head h); own = own ∙ sym (own_number xs c there); due = λ _. refl; ring = was.ring; quiet = was.quiet }) e
+    (record {
+      first = was.first;
+      among = was.among;
+      config = was.config;
+      head = λ h. absurd (head h);
+      own = own ∙ sym (own_number xs c there);
+      due = λ _. refl;
+      bound = entered_bound g (connection_of xs c).socket.phase p (connection_of xs c).socket.ring (is_gone p) refl step was.bound;
+      gone = entered_gone (connection_of xs c).socket.ring (is_gone p);
+      unused = λ none. entered_unused (connection_of xs c).socket.ring (is_gone p) (was.unused none);
+      ring = entered_unused (connection_of xs c).socket.ring (is_gone p) was.ring;
+      quiet = was.quiet;
+    }) e
 
 pub becomes_put : {g : ConfigValue} {n : ℕ} {xs ys : List Connection} (c : ℕ) (s : Entry) → AreKept g n xs → has_entry (entries_of xs) c ≡ true
-    → s.conn ≡ (connection_of xs c).socket.conn → s.config ≡ (connection_of xs c).socket.config → s.phase ≡ (connection_of xs c).socket.phase → (connection_of xs c).socket.phase ≢ Head
-    → s.ring ≡ [] → s.quiet ≡ (connection_of xs c).socket.quiet → ys ≡ replaced xs c (with_socket (connection_of xs c) s) → Becomes g n c xs ys (with_socket (connection_of xs c) s)
-becomes_put {g} {n} {xs} {ys} c s k there conn config phase head ring quiet e =
+    → s.conn ≡ (connection_of xs c).socket.conn → s.config ≡ (connection_of xs c).socket.config → s.phase ≡ (connection_of xs c).socket.phase → (s.phase ≡ Head → s.numbered ≡ 0)
+    → length s.ring ≤ most_held_in g s.phase → (is_gone s.phase ≡ true → s.ring ≡ []) → (s.numbered ≡ 0 → s.ring ≡ []) → s.ring ≡ [] → s.quiet ≡ (connection_of xs c).socket.quiet → ys ≡ replaced xs c (with_socket (connection_of xs c) s) → Becomes g n c xs ys (with_socket (connection_of xs c) s)
+becomes_put {g} {n} {xs} {ys} c s k there conn config phase head bound gone unused ring quiet e =
     let was = each_of g n xs c k.each there in
     becomes_by g n c xs ys (with_socket (connection_of xs c) s) k there (conn ∙ own_number xs c there)
     (record {
       first = let a = was.first in omega arith;
       among = let a = was.among in omega arith;
       config = config ∙ was.config;
-      head = λ h. absurd (head (sym phase ∙ h));
+      head = head;
       own = subst (λ z. IsOwn z (connection_of xs c).closed) (sym conn) was.own;
       due = λ h. was.due (ap is_gone (sym phase) ∙ h);
+      bound = bound;
+      gone = gone;
+      unused = unused;
       ring = ring;
       quiet = quiet ∙ was.quiet;
     }) e
@@ -71,17 +151,18 @@ pub becomes_told : {g : ConfigValue} {n : ℕ} {xs ys : List Connection} (c : �
 becomes_told {g} {n} {xs} {ys} c k there here e =
     let was = each_of g n xs c k.each there in
     becomes_by g n c xs ys (told (connection_of xs c)) k there (own_number xs c there)
-    (record { first = was.first; among = was.among; config = was.config; head = was.head; own = tt {0}; due = λ h. absurd (let z : false ≡ true = sym here ∙ h in cc); ring = was.ring; quiet = was.quiet }) e
+    (record { first = was.first; among = was.among; config = was.config; head = was.head; own = tt {0}; due = λ h. absurd (let z : false ≡ true = sym here ∙ h in cc); bound = was.bound; gone = was.gone; unused = was.unused; ring = was.ring; quiet = was.quiet }) e
 
 pub becomes_forgotten : {g : ConfigValue} {n : ℕ} {xs ys : List Connection} (c : ℕ) → AreKept g n xs → ys ≡ without xs c → Becomes g n c xs ys no_connection
 becomes_forgotten {g} {n} {xs} {ys} c k e = subst (λ w. Becomes g n c xs w no_connection) (sym e) (becomes_without g n c xs k)
 
 -- ---- what stays of the connection
 
-pub entry_enters : {g : ConfigValue} {n c : ℕ} {xs ys : List Connection} {p : Phase} {o : Option Parting} → Becomes g n c xs ys (record { socket = record (connection_of xs c).socket { phase = p }; closed = o })
+pub entry_enters : {g : ConfigValue} {n c : ℕ} {xs ys : List Connection} {p : Phase} {o : Option Parting} → is_gone p ≡ false → Becomes g n c xs ys (record { socket = goes_on p (connection_of xs c).socket; closed = o })
     → entry_of (entries_of ys) c ≡ record (entry_of (entries_of xs) c) { phase = p }
-entry_enters {g} {n} {c} {xs} {ys} {p} {o} b =
-    entry_becomes b ∙ ap (λ (z : Entry). record z { phase = p }) (sym (entry_is xs c))
+entry_enters {g} {n} {c} {xs} {ys} {p} {o} live b =
+    entry_becomes b ∙ ap (goes_on p) (sym (entry_is xs c))
+    ∙ ap (λ (z : Bool). record (entry_of (entries_of xs) c) { phase = p; ring = if z then [] else (entry_of (entries_of xs) c).ring }) live
 
 pub due_stays : {g : ConfigValue} {n c : ℕ} {xs ys : List Connection} {s : Entry} → AreKept g n xs → Becomes g n c xs ys (with_socket (connection_of xs c) s) → due_of (partings_of ys) c ≡ due_of (partings_of xs) c
 due_stays {g} {n} {c} {xs} {ys} {s} k b = due_becomes b ∙ sym (due_is g n xs c k.each k.rising)
@@ -109,7 +190,7 @@ becomes_added {g} {n} {xs} {ys} c k new room e =
     let size = length_entries xs in
     subst (AreKept g c) (sym e) (record {
       rising = subst (λ z. AreRising z) (sym (entries_added xs y)) (rising_last xs y.socket k.rising (above_all g n c xs k new));
-      each = each_added g n c xs y (omega arith) (record { first = omega arith; among = omega arith; config = refl; head = λ h. refl; own = tt {0}; due = λ h. absurd (let z : false ≡ true = h in cc); ring = refl; quiet = refl }) k.each;
+      each = each_added g n c xs y (omega arith) (record { first = omega arith; among = omega arith; config = refl; head = λ h. refl; own = tt {0}; due = λ h. absurd (let z : false ≡ true = h in cc); bound = omega arith; gone = λ _. refl; unused = λ _. refl; ring = refl; quiet = refl }) k.each;
       few = let a = length-append xs (y ∷ []) in omega arith;
     })
 

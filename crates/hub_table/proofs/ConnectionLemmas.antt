@@ -1,5 +1,5 @@
 -- The connections of a hub in the order of their numbers: one changed, added or forgotten.
-use Rattle.hub_table.proofs.Below.{◌≡◌, ◌≢◌, ◌<◌, ◌≤◌, ℕ, List, [], ◌∷◌, ◌++◌, Option, Some, None, Bool, true, false, cond, nat_eq, not, length, refl, sym, ap, ◌∙◌, subst, arith, suc, ◌||◌, is_some, option_map, Head, Gone, ConfigValue, Entry, PartingValue, no_entry, has_entry, entry_of, is_gone, none_of, present_entry, by_cases, equal_is, is_equal, is_unequal, unequal_is, due_of, Connection, Parting, AreAbove, AreRising, IsTable, ChangesOne, is_kept, no_connection, connection_of, replaced, without, entries_of, put_before, partings_of, cause, IsOwn, IsConnection, AreConnections, AreKept, table_state}
+use Rattle.hub_table.proofs.Below.{most_held_in, ◌≡◌, ◌≢◌, ◌<◌, ◌≤◌, ℕ, List, [], ◌∷◌, ◌++◌, Option, Some, None, Bool, true, false, cond, nat_eq, not, length, refl, sym, ap, ◌∙◌, subst, arith, suc, ◌||◌, is_some, option_map, Head, Gone, ConfigValue, Entry, PartingValue, no_entry, has_entry, entry_of, is_gone, none_of, present_entry, by_cases, equal_is, is_equal, is_unequal, unequal_is, due_of, Connection, Parting, AreAbove, AreRising, IsTable, ChangesOne, is_kept, no_connection, connection_of, replaced, without, entries_of, put_before, partings_of, cause, IsOwn, IsConnection, AreConnections, AreKept, table_state}
 
 -- ---- one connection replaced, or left out
 
@@ -112,7 +112,7 @@ pub each_added : (g : ConfigValue) (n m : ℕ) (xs : List Connection) (y : Conne
 each_added g n m [] y l own all = (own, tt {0})
 each_added g n m (x ∷ xs) y l own all =
     let a = all.0 in let k = a.among in
-    (record { first = a.first; among = omega arith; config = a.config; head = a.head; own = a.own; due = a.due; ring = a.ring; quiet = a.quiet }, each_added g n m xs y l own all.1)
+    (record { first = a.first; among = omega arith; config = a.config; head = a.head; own = a.own; due = a.due; bound = a.bound; gone = a.gone; unused = a.unused; ring = a.ring; quiet = a.quiet }, each_added g n m xs y l own all.1)
 
 pub each_of : (g : ConfigValue) (n : ℕ) (xs : List Connection) (c : ℕ) → AreConnections g n xs → has_entry (entries_of xs) c ≡ true → IsConnection g n (connection_of xs c)
 each_of g n [] c all t = absurd (let z : false ≡ true = t in cc)
@@ -186,8 +186,14 @@ is_table {g} {n} {xs} k = record {
   few = let a = k.few in let b = length_entries xs in omega arith;
   kept = λ c. by_cases (has_entry (entries_of xs) c) (λ t. t ∙ sym (is_there g n xs c k t)) (λ t. t ∙ sym (is_away g n xs c k t));
   config = λ c t. let own = each_of g n xs c k.each t in ap (λ (z : Entry). z.config) (entry_is xs c) ∙ own.config;
-  gone = λ c _. by_cases (has_entry (entries_of xs) c)
-      (λ t. let own = each_of g n xs c k.each t in ap (λ (z : Entry). z.ring) (entry_is xs c) ∙ own.ring)
+  gone = λ c away. by_cases (has_entry (entries_of xs) c)
+      (λ t. let own = each_of g n xs c k.each t in ap (λ (z : Entry). z.ring) (entry_is xs c) ∙ own.gone (sym (ap (λ (z : Entry). is_gone z.phase) (entry_is xs c)) ∙ away))
+      (λ t. ap (λ (z : Entry). z.ring) (none_of (entries_of xs) c t));
+  bound = λ c. by_cases (has_entry (entries_of xs) c)
+      (λ t. subst (λ (z : Entry). length z.ring ≤ most_held_in g z.phase) (sym (entry_is xs c)) (each_of g n xs c k.each t).bound)
+      (λ t. subst (λ (z : Entry). length z.ring ≤ most_held_in g z.phase) (sym (none_of (entries_of xs) c t)) (omega arith));
+  unused = λ c none. by_cases (has_entry (entries_of xs) c)
+      (λ t. let own = each_of g n xs c k.each t in ap (λ (z : Entry). z.ring) (entry_is xs c) ∙ own.unused (sym (ap (λ (z : Entry). z.numbered) (entry_is xs c)) ∙ none))
       (λ t. ap (λ (z : Entry). z.ring) (none_of (entries_of xs) c t));
   heads = λ c h. by_cases (has_entry (entries_of xs) c)
       (λ t. let own = each_of g n xs c k.each t in ap (λ (z : Entry). z.numbered) (entry_is xs c) ∙ own.head (sym (ap (λ (z : Entry). z.phase) (entry_is xs c)) ∙ h))

@@ -3,17 +3,8 @@ use Rattle.std.specs.Prelude.{◌≡◌, ◌≢◌, ◌≤◌, ◌+◌, ◌-◌,
 use Rattle.ws_kinds.specs.declared.note.Phase.{Phase}
 use Rattle.ws_kinds.specs.declared.note.Phase.TheVariants.{Head, Ending}
 use Rattle.ws_kinds.specs.ConfigValue.{ConfigValue}
-use Rattle.ws_kinds.specs.NoteValue.{NoteValue}
-use Rattle.link_trait.specs.NetState.{NetState}
-use Rattle.hub_lines.specs.State.{Entry, PartingValue, no_entry, has_entry, is_gone}
-use Rattle.hub_lines.specs.Told.{ShortWhereHeld}
-use Rattle.hub_lines.specs.Moves.{Moves, Others, buffered_of}
-use Rattle.hub_lines.specs.Fronts.{FailsWithin}
-use Rattle.socket_core.specs.declared.item.Item.{Item}
-use Rattle.socket_core.specs.declared.socket.Kept.{Kept}
-use Rattle.socket_core.specs.declared.socket.Kept.TheVariants.{Failed}
-use Rattle.socket_core.specs.Items.{octets_of, can_drop}
-use Rattle.socket_core.specs.Puts.{TellsRing, TellsFailure, OffersNoted, KeepsNet}
+use Rattle.hub_lines.specs.State.{Entry, PartingValue, no_entry, has_entry, is_gone, most_held_in}
+use Rattle.socket_core.specs.Phases.{entered as goes_on}
 use Rattle.hub_table.specs.declared.connection.Connection.{Connection}
 use Rattle.hub_table.specs.declared.parting.Parting.{Parting}
 use Rattle.hub_table.specs.Parting.{parting_value}
@@ -89,11 +80,11 @@ with_socket connection socket = record { socket = socket; closed = connection.cl
 
 -- it went on to a phase
 abbrev pub entered : Connection → Phase → Connection
-entered connection phase = with_socket connection (record connection.socket { phase = phase })
+entered connection phase = with_socket connection (goes_on phase connection.socket)
 
 -- it went on to a phase, and this Closed event is due
 abbrev pub parted : Connection → Phase → Parting → Connection
-parted connection phase parting = record { socket = record connection.socket { phase = phase }; closed = Some parting }
+parted connection phase parting = record { socket = goes_on phase connection.socket; closed = Some parting }
 
 -- its Closed event is due no more
 abbrev pub told : Connection → Connection
@@ -103,23 +94,6 @@ told connection = record { socket = connection.socket; closed = None }
 abbrev pub IsOwn : ℕ → Option Parting → Type 0
 IsOwn conn None = ⊤
 IsOwn conn (Some parting) = parting.conn.0 ≡ conn
-
--- what putting an item makes of a connection's socket, of the net, and of what the watch told
-pub record PutsFrame (item : Item) (answer : Kept) (old new : Entry) (net_before net_after : NetState) (told_before told_after : Option (List NoteValue)) : Type 0 where
-  pub moves : answer ≢ Failed → Moves old.conn old.config.limit (can_drop item) (octets_of item ∷ []) (buffered_of old []) (buffered_of new []) net_before net_after told_before told_after
-  pub others : Others old.conn net_before net_after told_before told_after
-  pub offers : OffersNoted answer old.conn net_before net_after told_before told_after
-  pub front : answer ≡ Failed → FailsWithin old.conn (octets_of item ∷ []) (buffered_of old []) net_before net_after told_before told_after
-  pub short : answer ≢ Failed → ShortWhereHeld old.conn old.ring told_before → ShortWhereHeld old.conn new.ring told_after
-  pub kept : TellsRing answer new.ring
-  pub failed : TellsFailure answer old.conn net_before net_after told_before told_after
-  pub net : KeepsNet old.conn net_before net_after
-  pub numbered : new.numbered ≡ min (old.numbered + 1) (2 ^ 64 - 1)
-  pub ring : new.ring ≡ []
-  pub conn : new.conn ≡ old.conn
-  pub config : new.config ≡ old.config
-  pub phase : new.phase ≡ old.phase
-  pub quiet : new.quiet ≡ old.quiet
 
 -- what holds of each connection by itself
 pub record IsConnection (numbers : ConfigValue) (greatest : ℕ) (connection : Connection) : Type 0 where
@@ -132,7 +106,11 @@ pub record IsConnection (numbers : ConfigValue) (greatest : ℕ) (connection : C
   pub own : IsOwn connection.socket.conn connection.closed
   -- it is gone only as long as its Closed event is due
   pub due : is_gone connection.socket.phase ≡ true → is_some connection.closed ≡ true
-  -- nothing is held back for it yet
+  -- what is held back for it has a bound, and is discarded once it is gone; nothing is held where nothing was put
+  pub bound : length connection.socket.ring ≤ most_held_in numbers connection.socket.phase
+  pub gone : is_gone connection.socket.phase ≡ true → connection.socket.ring ≡ []
+  pub unused : connection.socket.numbered ≡ 0 → connection.socket.ring ≡ []
+  -- nothing is held back yet, since each link takes all that it is offered
   pub ring : connection.socket.ring ≡ []
   -- and no ticks are counted yet
   pub quiet : connection.socket.quiet ≡ record { ticks = 0; leaving = 0 }

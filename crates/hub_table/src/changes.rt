@@ -1,11 +1,13 @@
 //! Changes of one connection among all.
 
-ghost use Rattle.std.specs.Prelude.{◌≡◌, ◌≤◌, true, length};
+ghost use Rattle.std.specs.Prelude.{◌≡◌, ◌≢◌, ◌≤◌, ◌+◌, ◌&&◌, nat_lt, [], ◌∷◌, true, false, length};
 ghost use Rattle.slab.specs.Slab.{ContainsKey, with_value};
-ghost use Rattle.socket_core.specs.Items.{IsPuttable};
+ghost use Rattle.socket_core.specs.Items.{IsPuttable, octets_of, can_drop};
+ghost use Rattle.socket_core.specs.Puts.{PassesOctets, is_drop};
+ghost use Rattle.hub_lines.specs.State.{most_held};
 ghost use Rattle.socket_core.specs.Phases.{can_enter};
 ghost use Rattle.hub_table.specs.Parting.{parting_value};
-ghost use Rattle.hub_table.specs.Connection.{entered, parted, told, with_socket, is_ending, PutsFrame};
+ghost use Rattle.hub_table.specs.Connection.{entered, parted, told, with_socket, is_ending};
 ghost use Rattle.hub_table.specs.ConnectionMap.{stored_at};
 
 use crate::connection::Connection;
@@ -76,10 +78,31 @@ pub fn put<N: Net, W: Watch>(
     requires there { ContainsKey connections.old key }
     requires live { (N.state out.old.net).live (stored_at connections.old key).socket.conn ≡ true }
     requires item { IsPuttable (stored_at connections.old key).socket.config (stored_at connections.old key).socket.numbered item }
-    ensures puts { PutsFrame item.entry result (stored_at connections.old key).socket (stored_at connections.new key).socket
+    requires room { can_drop item ≡ false → length (stored_at connections.old key).socket.ring + length (octets_of item) ≤ most_held (stored_at connections.old key).socket.config }
+    ensures passes { PassesOctets (stored_at connections.old key).socket.conn (stored_at connections.old key).socket.config.limit (can_drop item.entry) (octets_of item.entry ∷ [])
+        result (stored_at connections.old key).socket (stored_at connections.new key).socket
         (N.state out.old.net) (N.state out.new.net) (W.told out.old.watch) (W.told out.new.watch) }
+    ensures empty { (stored_at connections.old key).socket.ring ≡ [] → (stored_at connections.new key).socket.ring ≡ [] }
+    ensures dropped { is_drop result ≡
+        (can_drop item.entry && nat_lt (stored_at connections.old key).socket.config.limit (length (stored_at connections.old key).socket.ring)) }
     ensures slab { connections.new ≡ with_value connections.old key (with_socket (stored_at connections.old key) (stored_at connections.new key).socket) }
-    ensures tally { out.new.tally ≡ out.old.tally }
 {
     connections[key].socket.put_frame(out, item)
+}
+
+/// Offers what is held back for the connection under this key, as its socket does.
+pub fn writable<N: Net, W: Watch>(
+    connections: &mut Slab<Connection>,
+    out: &mut Outside<N, W>,
+    key: usize,
+) -> Kept
+    requires there { ContainsKey connections.old key }
+    requires live { (N.state out.old.net).live (stored_at connections.old key).socket.conn ≡ true }
+    ensures passes { PassesOctets (stored_at connections.old key).socket.conn (stored_at connections.old key).socket.config.limit false []
+        result (stored_at connections.old key).socket (stored_at connections.new key).socket
+        (N.state out.old.net) (N.state out.new.net) (W.told out.old.watch) (W.told out.new.watch) }
+    ensures waits { result ≢ Kept.Failed → (stored_at connections.new key).socket.ring ≢ [] → (N.state out.new.net).writable (stored_at connections.old key).socket.conn ≡ false }
+    ensures slab { connections.new ≡ with_value connections.old key (with_socket (stored_at connections.old key) (stored_at connections.new key).socket) }
+{
+    connections[key].socket.writable(out)
 }

@@ -1,14 +1,15 @@
 //! The connections of a hub, found by their numbers.
 
-ghost use Rattle.std.specs.Prelude.{◌≡◌, ◌≢◌, ◌<◌, ◌++◌, [], ◌∷◌, ℕ, true, false, length, IfOk, is_ok, option_copied, is_some, Some, None, if◌then◌else◌};
+ghost use Rattle.std.specs.Prelude.{◌≡◌, ◌≢◌, ◌<◌, ◌++◌, ◌+◌, ◌≤◌, ◌&&◌, nat_lt, [], ◌∷◌, ℕ, true, false, length, IfOk, is_ok, option_copied, is_some, Some, None, if◌then◌else◌};
 ghost use Rattle.std.specs.Option.{option_map};
 ghost use Rattle.std.specs.Ordering.{nat_cmp};
 ghost use Rattle.std.specs.BTreeMap.{get};
-ghost use Rattle.hub_lines.specs.State.{has_entry};
-ghost use Rattle.socket_core.specs.Items.{IsPuttable};
+ghost use Rattle.hub_lines.specs.State.{has_entry, most_held};
+ghost use Rattle.socket_core.specs.Items.{IsPuttable, octets_of, can_drop};
+ghost use Rattle.socket_core.specs.Puts.{PassesOctets, is_drop};
 ghost use Rattle.socket_core.specs.Phases.{can_enter};
 ghost use Rattle.hub_table.specs.NumberSet.{first_of, first_above};
-ghost use Rattle.hub_table.specs.Connection.{connection_of, connection_in, entries_of, replaced, without, entered, parted, told, with_socket, is_due, ends, is_ending, numbers_where, PutsFrame};
+ghost use Rattle.hub_table.specs.Connection.{connection_of, connection_in, entries_of, replaced, without, entered, parted, told, with_socket, is_due, ends, is_ending, numbers_where};
 
 use crate::changes;
 use crate::connection::Connection;
@@ -169,14 +170,33 @@ impl ConnectionMap {
         requires there { has_entry (entries_of self.old.all) conn.0 ≡ true }
         requires live { (N.state out.old.net).live (connection_of self.old.all conn.0).socket.conn ≡ true }
         requires item { IsPuttable (connection_of self.old.all conn.0).socket.config (connection_of self.old.all conn.0).socket.numbered item }
-        ensures puts { PutsFrame item.entry result (connection_of self.old.all conn.0).socket (connection_of self.new.all conn.0).socket
+        requires room { can_drop item ≡ false → length (connection_of self.old.all conn.0).socket.ring + length (octets_of item) ≤ most_held (connection_of self.old.all conn.0).socket.config }
+        ensures passes { PassesOctets conn.0 (connection_of self.old.all conn.0).socket.config.limit (can_drop item.entry) (octets_of item.entry ∷ [])
+            result (connection_of self.old.all conn.0).socket (connection_of self.new.all conn.0).socket
             (N.state out.old.net) (N.state out.new.net) (W.told out.old.watch) (W.told out.new.watch) }
+        ensures empty { (connection_of self.old.all conn.0).socket.ring ≡ [] → (connection_of self.new.all conn.0).socket.ring ≡ [] }
+        ensures dropped { is_drop result ≡
+            (can_drop item.entry && nat_lt (connection_of self.old.all conn.0).socket.config.limit (length (connection_of self.old.all conn.0).socket.ring)) }
         ensures all { self.new.all ≡ replaced self.old.all conn.0 (with_socket (connection_of self.old.all conn.0) (connection_of self.new.all conn.0).socket) }
         ensures room { self.new.room ≡ self.old.room }
-        ensures tally { out.new.tally ≡ out.old.tally }
     {
         let key = key_of(&self.keys, conn);
         changes::put(&mut self.connections, out, key, item)
+    }
+
+    /// Offers what is held back for a connection, as its socket does.
+    pub fn writable<N: Net, W: Watch>(&mut self, out: &mut Outside<N, W>, conn: Conn) -> Kept
+        requires there { has_entry (entries_of self.old.all) conn.0 ≡ true }
+        requires live { (N.state out.old.net).live (connection_of self.old.all conn.0).socket.conn ≡ true }
+        ensures passes { PassesOctets conn.0 (connection_of self.old.all conn.0).socket.config.limit false []
+            result (connection_of self.old.all conn.0).socket (connection_of self.new.all conn.0).socket
+            (N.state out.old.net) (N.state out.new.net) (W.told out.old.watch) (W.told out.new.watch) }
+        ensures waits { result ≢ Kept.Failed → (connection_of self.new.all conn.0).socket.ring ≢ [] → (N.state out.new.net).writable conn.0 ≡ false }
+        ensures all { self.new.all ≡ replaced self.old.all conn.0 (with_socket (connection_of self.old.all conn.0) (connection_of self.new.all conn.0).socket) }
+        ensures room { self.new.room ≡ self.old.room }
+    {
+        let key = key_of(&self.keys, conn);
+        changes::writable(&mut self.connections, out, key)
     }
 
     /// The least connection for which a Closed event is due.

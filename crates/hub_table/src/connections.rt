@@ -1,16 +1,13 @@
 //! The table of a hub's connections.
 
-ghost use Rattle.std.specs.Prelude.{◌≡◌, ◌≢◌, ◌+◌, ◌-◌, ◌^◌, ◌<◌, ◌≤◌, ◌++◌, [], ◌∷◌, true, false, min, length, IfOk, OnErr, OnOk, Some, None, nat_eq, if◌then◌else◌, ℕ};
+ghost use Rattle.std.specs.Prelude.{◌≡◌, ◌≢◌, ◌+◌, ◌<◌, ◌≤◌, ◌++◌, ◌&&◌, nat_lt, [], ◌∷◌, true, false, length, IfOk, OnErr, OnOk, Some, None, nat_eq, if◌then◌else◌, ℕ};
 ghost use Rattle.std.specs.Option.{option_map};
 ghost use Rattle.ws_kinds.specs.ConfigValue.{IsConfig};
-ghost use Rattle.hub_lines.specs.Told.{ShortWhereHeld};
-ghost use Rattle.hub_lines.specs.State.{entry_of, has_entry, is_gone, new_entry};
-ghost use Rattle.hub_lines.specs.Moves.{Moves, Others, buffered_of};
+ghost use Rattle.hub_lines.specs.State.{entry_of, has_entry, is_gone, most_held_in, new_entry};
 ghost use Rattle.hub_notes.specs.Progress.{due_of};
-ghost use Rattle.hub_lines.specs.Fronts.{FailsWithin};
 ghost use Rattle.socket_core.specs.Items.{octets_of, can_drop, IsPuttable};
 ghost use Rattle.socket_core.specs.Phases.{can_enter};
-ghost use Rattle.socket_core.specs.Puts.{TellsRing, TellsFailure, OffersNoted, KeepsNet};
+ghost use Rattle.socket_core.specs.Puts.{PassesOctets, is_drop};
 ghost use Rattle.hub_table.specs.Parting.{parting_value};
 ghost use Rattle.hub_notes.specs.Table.{IsTable, ChangesOne, due_when_gone, IsNextEnding, TakesDue};
 
@@ -113,7 +110,8 @@ impl Connections {
     }
 
     /// Puts an item for a connection that is past Head, as its socket does: it gets the connection's next index, counted from
-    /// 0, its octets are offered to the link, and what the link took is noted.
+    /// 0, and is dropped, held back or offered to the link; what the link took, and a drop, is noted. An item that may not be dropped
+    /// fits behind what is held back.
     ///
     /// Where the write fails, the answer is `Failed`, and nothing is noted; the net counted the fault, and the connection
     /// stays in its phase.
@@ -127,31 +125,35 @@ impl Connections {
         requires live { (N.state out.old.net).live conn.0 ≡ true }
         requires item { IsPuttable self.old.config (entry_of self.old.entries conn.0).numbered item }
         requires past_head { (entry_of self.old.entries conn.0).phase ≢ Phase.Head }
-
-        ensures moves { result ≢ Kept.Failed →
-            Moves conn.0 self.old.config.limit (can_drop item.entry) (octets_of item.entry ∷ [])
-            (buffered_of (entry_of self.old.entries conn.0) []) (buffered_of (entry_of self.new.entries conn.0) [])
+        requires room { can_drop item ≡ false → length (entry_of self.old.entries conn.0).ring + length (octets_of item) ≤ most_held_in self.old.config (entry_of self.old.entries conn.0).phase }
+        ensures passes { PassesOctets conn.0 self.old.config.limit (can_drop item.entry) (octets_of item.entry ∷ []) result (entry_of self.old.entries conn.0) (entry_of self.new.entries conn.0)
             (N.state out.old.net) (N.state out.new.net) (W.told out.old.watch) (W.told out.new.watch) }
-        ensures others { Others conn.0 (N.state out.old.net) (N.state out.new.net) (W.told out.old.watch) (W.told out.new.watch) }
-        ensures offers { OffersNoted result conn.0 (N.state out.old.net) (N.state out.new.net) (W.told out.old.watch) (W.told out.new.watch) }
-        ensures front { result ≡ Kept.Failed → FailsWithin conn.0 (octets_of item.entry ∷ []) (buffered_of (entry_of self.old.entries conn.0) [])
-            (N.state out.old.net) (N.state out.new.net) (W.told out.old.watch) (W.told out.new.watch) }
-        ensures short { result ≢ Kept.Failed → ShortWhereHeld conn.0 (entry_of self.old.entries conn.0).ring (W.told out.old.watch) →
-            ShortWhereHeld conn.0 (entry_of self.new.entries conn.0).ring (W.told out.new.watch) }
-        ensures kept { TellsRing result (entry_of self.new.entries conn.0).ring }
-        ensures failed { TellsFailure result conn.0 (N.state out.old.net) (N.state out.new.net) (W.told out.old.watch) (W.told out.new.watch) }
-        ensures net { KeepsNet conn.0 (N.state out.old.net) (N.state out.new.net) }
-        ensures numbered { (entry_of self.new.entries conn.0).numbered ≡ min ((entry_of self.old.entries conn.0).numbered + 1) (2 ^ 64 - 1) }
+        ensures dropped { is_drop result ≡ (can_drop item.entry && nat_lt self.old.config.limit (length (entry_of self.old.entries conn.0).ring)) }
         ensures ring { (entry_of self.new.entries conn.0).ring ≡ [] }
-        ensures phase { (entry_of self.new.entries conn.0).phase ≡ (entry_of self.old.entries conn.0).phase }
-        ensures quiet { (entry_of self.new.entries conn.0).quiet ≡ (entry_of self.old.entries conn.0).quiet }
         ensures there { has_entry self.new.entries conn.0 ≡ true }
         ensures due { due_of self.new.partings conn.0 ≡ due_of self.old.partings conn.0 }
         ensures table { IsTable self.new }
         ensures elsewhere { ChangesOne conn.0 self.old self.new }
-        ensures tally { out.new.tally ≡ out.old.tally }
     {
         self.table.put(out, conn, item)
+    }
+
+    /// Offers what is held back for a connection that is past Head, as its socket does: in at most two writes. What the link took is
+    /// noted.
+    ///
+    /// Where a write fails, the answer is `Failed`; the net counted the fault, and the connection stays in its phase.
+    pub fn writable<N: Net, W: Watch>(&mut self, out: &mut Outside<N, W>, conn: Conn) -> Kept
+        requires there { has_entry self.old.entries conn.0 ≡ true }
+        requires live { (N.state out.old.net).live conn.0 ≡ true }
+        ensures passes { PassesOctets conn.0 self.old.config.limit false [] result (entry_of self.old.entries conn.0) (entry_of self.new.entries conn.0)
+            (N.state out.old.net) (N.state out.new.net) (W.told out.old.watch) (W.told out.new.watch) }
+        ensures waits { result ≢ Kept.Failed → (entry_of self.new.entries conn.0).ring ≢ [] → (N.state out.new.net).writable conn.0 ≡ false }
+        ensures there { has_entry self.new.entries conn.0 ≡ true }
+        ensures due { due_of self.new.partings conn.0 ≡ due_of self.old.partings conn.0 }
+        ensures table { IsTable self.new }
+        ensures elsewhere { ChangesOne conn.0 self.old self.new }
+    {
+        self.table.writable(out, conn)
     }
 
     /// A connection goes on to a phase: from Head to Open or Ending, or from Leaving to Ending. It does not leave Open by this,
@@ -217,8 +219,8 @@ impl Connections {
         }
     }
 
-    /// Says that no octets are held for any connection, as long as each frame is written by itself when it is put. This is a
-    /// law, and calls for nothing to be done.
+    /// Says that no octets are held for any connection, as long as each link takes all that it is offered. This is a law, and calls
+    /// for nothing to be done.
     pub fn no_rings(&self)
         ensures { (conn : ℕ) → (entry_of self.now.entries conn).ring ≡ [] }
     {

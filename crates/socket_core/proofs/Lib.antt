@@ -1,3 +1,5 @@
 pub mod OfferLemmas
+pub mod HandLemmas
+pub mod PassLemmas
 pub mod Below
 pub mod All

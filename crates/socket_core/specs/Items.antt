@@ -7,6 +7,8 @@ use Rattle.wire_meaning.specs.declared.frame.Opcode.TheVariants.{Begins, Close}
 use Rattle.wire_meaning.specs.Frame.{header, opcode_number}
 use Rattle.wire_meaning.specs.Answer.{Item as Sent, reply, whole, spelled}
 use Rattle.hub_lines.specs.Items.{can_drop as may_drop}
+use Rattle.hub_lines.specs.State.{most_held}
+use Rattle.backlog.specs.RingValue.{RingValue}
 use Rattle.frame_writer.specs.Header.{is_sent_opcode}
 use Rattle.socket_core.specs.declared.item.Item.{Item}
 use Rattle.socket_core.specs.declared.item.Item.TheVariants.{Reply, Spelled, Frame}
@@ -44,3 +46,9 @@ abbrev pub HasRoom : ℕ → Item → Type 0
 HasRoom room (Reply text) = length text.now ≤ room
 HasRoom room (Spelled frame) = length frame.now ≤ room
 HasRoom room (Frame opcode payload) = IsTrue (is_sent_opcode opcode) × (length payload.now ≤ 65536) × (10 + length payload.now ≤ room)
+
+-- what a socket keeps: room for so many octets of one item, and a ring with room for all that may be held back
+pub record HasMemory (config : ConfigValue) (room : ℕ) (ring : RingValue) : Type 0 where
+  pub item : config.max_message + 256 ≤ room
+  pub capacity : ring.capacity ≡ most_held config
+  pub within : length ring.octets ≤ ring.capacity

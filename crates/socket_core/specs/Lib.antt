@@ -1,4 +1,5 @@
 pub mod Items
 pub mod Phases
 pub mod Puts
+pub mod Offers
 pub mod All

@@ -9,6 +9,7 @@ ghost use Rattle.socket_core.specs.declared.item.Item.{Item as ItemValue};
 ghost use Rattle.socket_core.specs.Items.{octets_of, can_drop, IsSent, HasRoom};
 
 use frame_writer::head_of;
+use wire_meaning::{Opcode, opcode_number};
 
 /// What is put for a connection: a reply or one whole frame.
 #[derive(Clone, Copy, Debug, PartialEq, Eq)]
@@ -21,6 +22,21 @@ pub enum Item<'a> {
     /// A frame, by its opcode's number and its payload (RFC 6455, section 5.2): 1 text or 2 binary with at most `max_message`
     /// octets; 8 close, 9 ping or 10 pong with at most 125. A close frame is never dropped.
     Frame(u8, &'a [u8]),
+}
+
+impl Item<'_> {
+    ghost use Rattle.socket_core.specs.Items.{can_drop};
+
+    /// Whether it may be dropped: replies and close frames may not.
+    pub fn can_drop(&self) -> bool
+        ensures { result ≡ can_drop self.now }
+    {
+        match self {
+            Item::Reply(_) => false,
+            Item::Spelled(_) => true,
+            Item::Frame(opcode, _) => *opcode != opcode_number(Opcode::Close),
+        }
+    }
 }
 
 /// Items are what a server sends: each has the octets of the reply or the frame that it is, and may be dropped where that may

@@ -1,7 +1,8 @@
-//! One connection of a hub: its number, its phase, and the items that are put for it.
+//! One connection of a hub: its number, its phase, the items that are put for it, and the octets that its link did not take.
 #![tactic(auto)]
 
 mod item;
+mod offering;
 mod socket;
 
 pub use item::{Item, items_are_sent};

@@ -1,17 +1,17 @@
 //! A connection's socket.
 
-ghost use Rattle.std.specs.Prelude.{◌≡◌, ◌≢◌, ◌+◌, ◌-◌, ◌^◌, [], ◌∷◌, true, min, length, IfOk};
+ghost use Rattle.std.specs.Prelude.{◌≡◌, ◌≢◌, ◌≤◌, ◌+◌, [], ◌∷◌, ◌&&◌, true, false, nat_lt, length, IfOk};
 ghost use Rattle.ws_kinds.specs.declared.note.Phase.TheVariants as phases;
-ghost use Rattle.hub_lines.specs.Told.{WritesAreNoted, ShortWhereHeld};
-ghost use Rattle.hub_lines.specs.State.{new_entry};
-ghost use Rattle.hub_lines.specs.Moves.{Moves, Others, buffered_of};
+ghost use Rattle.hub_lines.specs.Told.{WritesAreNoted};
+ghost use Rattle.hub_lines.specs.State.{new_entry, most_held};
 ghost use Rattle.socket_core.specs.Items.{octets_of, can_drop, IsPuttable};
-ghost use Rattle.socket_core.specs.Phases.{can_enter};
-ghost use Rattle.hub_lines.specs.Fronts.{FailsWithin};
-ghost use Rattle.socket_core.specs.Puts.{TellsRing, TellsFailure, OffersNoted, OffersOnce, KeepsNet};
+ghost use Rattle.socket_core.specs.Phases.{can_enter, entered};
+ghost use Rattle.socket_core.specs.Puts.{PassesOctets, is_drop};
 
 use crate::item::{Item, spell};
-use link_trait::{Net, NetWrote, Outside};
+use crate::offering::{hand_over, kept, offer_parts};
+use backlog::Ring;
+use link_trait::{Net, Outside};
 use std::alloc::{AllocError, Global};
 use std::marker::Model;
 use ws_kinds::{Config, Conn, Note, Phase, Watch};
@@ -29,9 +29,11 @@ pub enum Kept {
     Failed,
 }
 
-/// One connection: its phase, and what is put for it. A contract sees it as an entry of a hub.
+/// One connection: its phase, the octets that its link did not take, and what is put for it. A contract sees it as an entry of a
+/// hub.
 ///
-/// Nothing is held back yet: each item is offered in one write, and the link takes it whole.
+/// An item is offered in one write. What the link did not take waits in a ring of fixed size, and while something waits there, items
+/// are put behind it. An item that may be dropped is dropped whole while more waits than the limit.
 #[derive(Drop)]
 pub struct Socket {
     conn: Conn,
@@ -40,11 +42,13 @@ pub struct Socket {
     numbered: u64,
     // The octets of the item that was put last.
     octets: Vec<u8>,
+    ring: Ring,
 }
 
 impl Model for Socket {
-    ghost use Rattle.std.specs.Prelude.{◌+◌, ◌≤◌, [], None, vec_capacity};
+    ghost use Rattle.std.specs.Prelude.{vec_capacity};
     ghost use Rattle.hub_lines.specs.State.{Entry};
+    ghost use Rattle.socket_core.specs.Items.{HasMemory};
 
     ghost Value = { Entry };
 
@@ -53,87 +57,99 @@ impl Model for Socket {
       config = socket.config;
       phase = socket.phase;
       numbered = socket.numbered;
-      ring = [];
+      ring = socket.ring.octets;
       quiet = record { ticks = 0; leaving = 0 };
     } };
 
-    ghost invariant = { λ socket. socket.config.max_message + 256 ≤ vec_capacity socket.octets };
+    ghost invariant = { λ socket. HasMemory socket.config (vec_capacity socket.octets) socket.ring };
 }
 
 impl Socket {
-    /// The socket of a connection that was just accepted: in phase Head, with no item put. It takes memory for one item, and
-    /// no later call takes any. An error says that there was too little.
+    /// The socket of a connection that was just accepted: in phase Head, with no item put. It takes memory for one item and
+    /// for all that may be held back, and no later call takes any. An error says that there was too little.
     pub fn new(alloc: Global, conn: Conn, config: &Config) -> Result<Socket, AllocError>
         ensures { IfOk result (λ socket. socket ≡ new_entry config.now conn.0) }
     {
-        let room = config.max_message() as usize + 256;
+        let longest = config.max_message() as usize + 256;
+        let most = config.limit() as usize + config.max_message() as usize + 512;
         Ok(Socket {
             conn,
             config: *config,
             phase: Phase::Head,
             numbered: 0,
-            octets: Vec::with_capacity(alloc, room)?,
+            octets: Vec::with_capacity(alloc, longest)?,
+            ring: Ring::new(alloc, most)?,
         })
     }
 
-    /// Puts an item, which gets the connection's next index, counted from 0, and offers its octets in one write. What the
-    /// link took is noted.
+    /// Puts an item, which gets the connection's next index, counted from 0.
     ///
-    /// Where the write fails, the answer is `Failed`, and nothing is noted; the net counted the fault. `Dropped` does not
-    /// come yet.
+    /// One that may be dropped is dropped where more octets are held back than the limit, and this is noted. Else it is offered in
+    /// one write where nothing is held back; what the link took is noted, and the rest is held back. Where something is held back,
+    /// the item is put behind it, and nothing is offered. An item that may not be dropped fits behind what is held back.
+    ///
+    /// Where the write fails, the answer is `Failed`, and nothing is noted; the net counted the fault.
     pub fn put_frame<N: Net, W: Watch>(&mut self, out: &mut Outside<N, W>, item: Item<'_>) -> Kept
         requires live { (N.state out.old.net).live self.old.conn ≡ true }
         requires item { IsPuttable self.old.config self.old.numbered item }
-
-        // The item is put: what stood for the connection's line stands, with this item behind it.
-        ensures moves { result ≢ Kept.Failed → Moves self.old.conn self.old.config.limit (can_drop item.entry) (octets_of item.entry ∷ []) (buffered_of self.old []) (buffered_of self.new [])
+        requires room { can_drop item ≡ false → length self.old.ring + length (octets_of item) ≤ most_held self.old.config }
+        ensures passes { PassesOctets self.old.conn self.old.config.limit (can_drop item.entry) (octets_of item.entry ∷ []) result self.old self.new
             (N.state out.old.net) (N.state out.new.net) (W.told out.old.watch) (W.told out.new.watch) }
-
-        // What stood for any other connection stands.
-        ensures others { Others self.old.conn (N.state out.old.net) (N.state out.new.net) (W.told out.old.watch) (W.told out.new.watch) }
 
         // Each write that took is noted.
         ensures noted { WritesAreNoted (N.state out.old.net) (W.told out.old.watch) → WritesAreNoted (N.state out.new.net) (W.told out.new.watch) }
 
-        // Nothing else is noted, and the link took what the notes say.
-        ensures offers { OffersNoted result self.old.conn (N.state out.old.net) (N.state out.new.net) (W.told out.old.watch) (W.told out.new.watch) }
+        // It is dropped exactly where it may be and more is held back than the limit.
+        ensures dropped { is_drop result ≡ (can_drop item.entry && nat_lt self.old.config.limit (length self.old.ring)) }
 
-        // Where a write fails, the link took a front of the line with this item behind it.
-        ensures front { result ≡ Kept.Failed → FailsWithin self.old.conn (octets_of item.entry ∷ []) (buffered_of self.old [])
-            (N.state out.old.net) (N.state out.new.net) (W.told out.old.watch) (W.told out.new.watch) }
+        // As long as each link takes all that it is offered, nothing is held back.
+        ensures empty { self.old.ring ≡ [] → self.new.ring ≡ [] }
 
-        // Octets are held back only after a short write.
-        ensures short { result ≢ Kept.Failed → ShortWhereHeld self.old.conn self.old.ring (W.told out.old.watch) → ShortWhereHeld self.old.conn self.new.ring (W.told out.new.watch) }
-
-        // The answer.
-        ensures kept { TellsRing result self.new.ring }
-        ensures failed { TellsFailure result self.old.conn (N.state out.old.net) (N.state out.new.net) (W.told out.old.watch) (W.told out.new.watch) }
-
-        // Nothing is held back yet: the item's octets are offered in one write.
-        ensures once { OffersOnce result self.old.conn (octets_of item.entry) (N.state out.old.net) (N.state out.new.net) (W.told out.old.watch) (W.told out.new.watch) }
-
-        // The rest of the net and of the socket.
-        ensures net { KeepsNet self.old.conn (N.state out.old.net) (N.state out.new.net) }
-        ensures numbered { self.new.numbered ≡ min (self.old.numbered + 1) (2 ^ 64 - 1) }
-        ensures ring { self.new.ring ≡ [] }
-        ensures conn { self.new.conn ≡ self.old.conn }
-        ensures config { self.new.config ≡ self.old.config }
-        ensures phase { self.new.phase ≡ self.old.phase }
-        ensures quiet { self.new.quiet ≡ self.old.quiet }
-        ensures tally { out.new.tally ≡ out.old.tally }
+        // Nothing is offered while something is held back.
+        ensures waits { self.old.ring ≢ [] → N.state out.new.net ≡ N.state out.old.net }
     {
-        spell(&mut self.octets, item);
+        let index = self.numbered;
         self.numbered = self.numbered.saturating_add(1);
-        let count = match out.net.write(self.conn, &self.octets) {
-            NetWrote::Took(count) => count,
-            NetWrote::Failed => return Kept::Failed,
-        };
-        out.watch.note(&Note::Took {
-            conn: self.conn,
-            offered: self.octets.len() as u64,
-            took: count as u64,
-        });
-        Kept::Clear
+        let held = self.ring_length();
+        if item.can_drop() && self.is_over() {
+            out.watch.note(&Note::Dropped {
+                conn: self.conn,
+                index,
+                held,
+            });
+            return Kept::Dropped(held);
+        }
+        spell(&mut self.octets, item);
+        hand_over(out, self.conn, &self.octets, &mut self.ring)
+    }
+
+    /// Offers what is held back, if anything is: the first part of the ring in one write, and the second part in another one where
+    /// the first was taken whole. What the link took is noted.
+    ///
+    /// Where a write fails, the answer is `Failed`, and nothing more is offered; the net counted the fault.
+    pub fn writable<N: Net, W: Watch>(&mut self, out: &mut Outside<N, W>) -> Kept
+        requires { (N.state out.old.net).live self.old.conn ≡ true }
+        ensures passes { PassesOctets self.old.conn self.old.config.limit false [] result self.old self.new
+            (N.state out.old.net) (N.state out.new.net) (W.told out.old.watch) (W.told out.new.watch) }
+        ensures noted { WritesAreNoted (N.state out.old.net) (W.told out.old.watch) → WritesAreNoted (N.state out.new.net) (W.told out.new.watch) }
+        ensures waits { result ≢ Kept.Failed → self.new.ring ≢ [] → (N.state out.new.net).writable self.old.conn ≡ false }
+    {
+        if self.ring.length() == 0 {
+            return Kept::Clear;
+        }
+        let (front, back) = self.ring.parts();
+        match offer_parts(out, self.conn, front, back) {
+            Some(count) => self.ring.gone(count),
+            None => return Kept::Failed,
+        }
+        kept(&self.ring)
+    }
+
+    /// Whether more octets are held back than the limit.
+    fn is_over(&self) -> bool
+        ensures { result ≡ nat_lt self.now.config.limit (length self.now.ring) }
+    {
+        self.ring.length() > self.config.limit() as usize
     }
 
     /// The number of the connection.
@@ -150,20 +166,23 @@ impl Socket {
         self.phase
     }
 
-    /// How many octets its link did not take: none yet.
+    /// How many octets are held back: those that its link did not take.
     pub fn ring_length(&self) -> u64
         ensures { result ≡ length self.now.ring }
     {
-        let _ = &self.octets;
-        0
+        self.ring.length() as u64
     }
 
     /// The connection goes on to a phase, to which a step leads from the one that it is in: from Head to Open or Ending, from
-    /// Open to Leaving or Ending, from Leaving to Ending, and from each to Gone.
+    /// Open to Leaving or Ending, from Leaving to Ending, and from each to Gone. What is held back for one that is gone is
+    /// discarded.
     pub fn enter(&mut self, phase: Phase)
         requires { can_enter self.old.phase phase ≡ true }
-        ensures { self.new ≡ record self.old { phase = phase } }
+        ensures { self.new ≡ entered phase self.old }
     {
         self.phase = phase;
+        if phase == Phase::Gone {
+            self.ring.gone(self.ring.length());
+        }
     }
 }

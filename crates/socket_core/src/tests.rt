@@ -54,8 +54,10 @@ fn put_reply<N: Net, W: Watch>(socket: &mut Socket, out: &mut Outside<N, W>) -> 
     requires live { (N.state out.old.net).live socket.old.conn ≡ true }
     requires usual { socket.old.config ≡ usual_config }
     requires unused { socket.old.numbered ≡ 0 }
+    requires empty { socket.old.ring ≡ [] }
     ensures live { (N.state out.new.net).live socket.new.conn ≡ true }
     ensures usual { socket.new.config ≡ usual_config }
+    ensures empty { socket.new.ring ≡ [] }
 {
     let reply = socket.put_frame(out, Item::Reply(b"reply"));
     [reply, socket.put_frame(out, Item::Spelled(b"\x81\x01A"))]
@@ -69,6 +71,7 @@ fn put_text<N: Net, W: Watch>(socket: &mut Socket, out: &mut Outside<N, W>, payl
         (buffered_of socket.old []) (buffered_of socket.new []) (N.state out.old.net) (N.state out.new.net) (W.told out.old.watch) (W.told out.new.watch) }
     ensures live { (N.state out.new.net).live socket.new.conn ≡ true }
     ensures usual { socket.new.config ≡ socket.old.config }
+    ensures empty { socket.old.ring ≡ [] → socket.new.ring ≡ [] }
 {
     socket.put_frame(out, Item::Frame(1, payload))
 }
@@ -77,6 +80,8 @@ fn put_text<N: Net, W: Watch>(socket: &mut Socket, out: &mut Outside<N, W>, payl
 fn put_frames<N: Net, W: Watch>(socket: &mut Socket, out: &mut Outside<N, W>) -> [Kept; 2]
     requires live { (N.state out.old.net).live socket.old.conn ≡ true }
     requires usual { socket.old.config ≡ usual_config }
+    requires empty { socket.old.ring ≡ [] }
+    ensures live { (N.state out.new.net).live socket.new.conn ≡ true }
 {
     let text = put_text(socket, out, b"Hello");
     [text, socket.put_frame(out, Item::Frame(8, b"\x03\xe9"))]
@@ -91,6 +96,8 @@ fn items_are_written_in_order(rt: HostRuntime) -> Result<(), Fail> {
         if conn == ONE {
             assert_eq!(rt; put_reply(&mut socket, &mut out), [Kept::Clear; 2]);
             assert_eq!(rt; put_frames(&mut socket, &mut out), [Kept::Clear; 2]);
+            assert_eq!(rt; socket.writable(&mut out), Kept::Clear);
+            assert_eq!(rt; socket.ring_length(), 0);
         }
     }
     items_are_sent();

@@ -26,6 +26,8 @@ table_none f named = record {
   kept = λ conn. refl;
   config = λ conn there. clash false refl there;
   gone = λ conn there. refl;
+  bound = λ conn. omega arith;
+  unused = λ conn none. refl;
   heads = λ conn there. absurd (let z : Gone ≡ Head = there in cc);
 }
 

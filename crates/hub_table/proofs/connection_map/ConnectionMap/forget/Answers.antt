@@ -7,7 +7,7 @@ key_of-key-requires c = has_key c.self.invariant c.args.conn.0 (ap (λ (z : Conn
 pub remove-requires-2 : goal.remove-requires-2
 remove-requires-2 c = under_key c.self.invariant c.args.conn.0 c.key_of-key.ensures
 
-now : (c : goal.After-drop-remove) → IsIndexed c.remove-2.new.self c.remove.new.self.entries c.mark.new.self c.mark-2.new.self
+now : (c : goal.After-drop-remove-2) → IsIndexed c.remove-2.new.self c.remove.new.self.entries c.mark.new.self c.mark-2.new.self
     × (listed c.remove-2.new.self c.remove.new.self.entries ≡ without (listed c.self.inside.connections c.self.inside.keys.entries) c.args.conn.0)
 now c =
     let gone : c.remove.result ≡ Some c.key_of-key.result = c.remove.ensures.value ∙ c.key_of-key.ensures in

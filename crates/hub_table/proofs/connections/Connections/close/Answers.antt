@@ -10,6 +10,7 @@ part-requires-clause-step c =
 
 became : (c : goal.After-part) → Becomes c.self.inside.config c.self.inside.named c.args.conn.0 c.self.inside.table.all c.part.new.self.all (parted (connection_of c.self.inside.table.all c.args.conn.0) Ending c.parting_of-parting.result)
 became c = becomes_parted c.args.conn.0 Ending c.parting_of-parting.result c.self.invariant.kept (there_by_phase (entries_of c.self.inside.table.all) c.args.conn.0 (ap (λ (z : TableState). is_gone (entry_of z.entries c.args.conn.0).phase) c.self.view_is ∙ ap is_gone c.requires.open))
+    (ap (λ (z : Entry). can_enter z.phase Ending) (sym (entry_is c.self.inside.table.all c.args.conn.0)) ∙ ap (λ (z : TableState). can_enter (entry_of z.entries c.args.conn.0).phase Ending) c.self.view_is ∙ ap (λ (z : Phase). can_enter z Ending) c.requires.open)
     (λ h. let z : Ending ≡ Head = h in cc)
     (ap (λ (z : PartingValue). z.conn) c.parting_of-parting.ensures)
     c.part.ensures.all
@@ -18,7 +19,7 @@ pub invariant_of-self : goal.invariant_of-self
 invariant_of-self c = record { kept = (became c).kept; room = c.part.ensures.room ∙ c.self.invariant.room }
 
 pub returns-clause-entry : goal.returns-clause-entry
-returns-clause-entry c = rw (← c.self.view_is) (entry_enters (became c))
+returns-clause-entry c = rw (← c.self.view_is) (entry_enters refl (became c))
 
 pub returns-clause-there : goal.returns-clause-there
 returns-clause-there c = there_becomes (became c) refl

@@ -7,6 +7,7 @@ enter-requires-clause-step c =
 
 became : (c : goal.After-enter) → Becomes c.self.inside.config c.self.inside.named c.args.conn.0 c.self.inside.table.all c.enter.new.self.all (entered (connection_of c.self.inside.table.all c.args.conn.0) c.args.phase)
 became c = becomes_entered c.args.conn.0 c.args.phase c.self.invariant.kept (ap (λ (z : TableState). has_entry z.entries c.args.conn.0) c.self.view_is ∙ c.requires.there)
+    (ap (λ (z : Entry). can_enter z.phase c.args.phase) (sym (entry_is c.self.inside.table.all c.args.conn.0)) ∙ ap (λ (z : TableState). can_enter (entry_of z.entries c.args.conn.0).phase c.args.phase) c.self.view_is ∙ c.requires.step)
     (enters_no_head (entry_of c.args.self.now.entries c.args.conn.0).phase c.args.phase c.requires.step)
     (λ h. absurd (c.requires.live (gone_is c.args.phase h)))
     c.enter.ensures.all
@@ -15,7 +16,7 @@ pub invariant_of-self : goal.invariant_of-self
 invariant_of-self c = record { kept = (became c).kept; room = c.enter.ensures.room ∙ c.self.invariant.room }
 
 pub returns-clause-entry : goal.returns-clause-entry
-returns-clause-entry c = rw (← c.self.view_is) (entry_enters (became c))
+returns-clause-entry c = rw (← c.self.view_is) (entry_enters (not_gone c.args.phase c.requires.live) (became c))
 
 pub returns-clause-there : goal.returns-clause-there
 returns-clause-there c = there_becomes (became c) (not_gone c.args.phase c.requires.live)

@@ -1,4 +1,4 @@
-use Rattle.hub_table.proofs.All.{◌≡◌, [], true, false, Some, None, is_some, sym, ap, ◌∙◌, Phase, Head, Gone, is_open, Entry, PartingValue, entry_of, is_gone, due_of, TableState, Connection, no_connection, connection_of, entries_of, entered, parted, Becomes, changes_one, entry_becomes, due_becomes, due_is, is_table, there_by_phase, becomes_entered, becomes_parted, becomes_forgotten, due_stays, cause_is, due_open, due_else, phase_read, none_due}
+use Rattle.hub_table.proofs.All.{refl, ◌≡◌, [], true, false, Some, None, is_some, sym, ap, ◌∙◌, Phase, Head, Gone, is_open, Entry, PartingValue, entry_of, is_gone, due_of, TableState, Connection, no_connection, connection_of, entries_of, entered, parted, Becomes, changes_one, entry_becomes, due_becomes, due_is, is_table, there_by_phase, becomes_entered, becomes_parted, becomes_forgotten, due_stays, cause_is, due_open, due_else, phase_read, none_due}
 use Rattle.hub_table.proofs.connections.Connections.leave.Goals as goal
 
 pub at-requires : goal.at-requires
@@ -19,6 +19,7 @@ forget-requires c = there_by_phase (entries_of c.self.inside.table.all) c.args.c
 -- the connection was open
 became : (c : goal.After-part) → Becomes c.self.inside.config c.self.inside.named c.args.conn.0 c.self.inside.table.all c.part.new.self.all (parted (connection_of c.self.inside.table.all c.args.conn.0) Gone c.parting_of-parting.result)
 became c = becomes_parted c.args.conn.0 Gone c.parting_of-parting.result c.self.invariant.kept (there_by_phase (entries_of c.self.inside.table.all) c.args.conn.0 (ap (λ (z : TableState). is_gone (entry_of z.entries c.args.conn.0).phase) c.self.view_is ∙ c.requires))
+    refl
     (λ h. let z : Gone ≡ Head = h in cc)
     (ap (λ (z : PartingValue). z.conn) c.parting_of-parting.ensures)
     c.part.ensures.all
@@ -43,6 +44,7 @@ returns-then-is_open-clause-table c = is_table (became c).kept
 -- its Closed event was due
 entered_gone : (c : goal.After-enter) → Becomes c.self.inside.config c.self.inside.named c.args.conn.0 c.self.inside.table.all c.enter.new.self.all (entered (connection_of c.self.inside.table.all c.args.conn.0) Gone)
 entered_gone c = becomes_entered c.args.conn.0 Gone c.self.invariant.kept (there_by_phase (entries_of c.self.inside.table.all) c.args.conn.0 (ap (λ (z : TableState). is_gone (entry_of z.entries c.args.conn.0).phase) c.self.view_is ∙ c.requires))
+    refl
     (λ h. let z : Gone ≡ Head = h in cc)
     (λ h. ap (λ (z : Connection). is_some z.closed) (sym c.at-2.ensures) ∙ sym c.if-is_due.ensures)
     c.enter.ensures.all

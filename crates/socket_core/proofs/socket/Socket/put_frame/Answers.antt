@@ -1,40 +1,39 @@
-use Rattle.socket_core.proofs.All.{◌≡◌, ℕ, List, length, sym, ap, ◌∙◌, subst, took, IsNoted, Writes, Accepted, moves_whole, others_took, noted_took, octets_of, can_drop, offers_took, front_failed}
+use Rattle.socket_core.proofs.Below.{rules, refl, ◌≡◌, ◌≢◌, ◌<◌, ◌≤◌, ℕ, List, [], true, length, sym, ap, ◌∙◌, subst, arith, can_drop, octets_of, HandsOver, Bool, false, ◌&&◌, nat_lt, is_drop, and-false}
+use Rattle.socket_core.proofs.PassLemmas.{passes_put, passes_dropped, noted_dropped, undropped_of}
+use Rattle.socket_core.specs.contracts.socket.Socket.{the_view}
 use Rattle.socket_core.proofs.socket.Socket.put_frame.Goals as goal
+use Rattle.socket_core.proofs.socket.Socket.put_frame.Goals.{else-can_drop-via-then-can_drop+else-is_over, else-can_drop-via-else-can_drop}
 
-pub returns-clause-moves : goal.returns-clause-moves
-returns-clause-moves g c good =
+pub returns-then-is_over-clause-passes : goal.returns-then-is_over-clause-passes
+returns-then-is_over-clause-passes g c =
+    let may : can_drop c.args.item ≡ true = search rules in
+    let over : c.self.inside.config.limit < length c.self.inside.ring.octets = search rules in
+    let held : c.ring_length-held.result ≡ length c.self.inside.ring.octets = search rules in
+    rw (← c.self.view_is) (passes_dropped c.self.inside.conn.0 c.self.inside.config.limit c.saturating_add-self-inside.result c.ring_length-held.result (can_drop c.args.item) (octets_of c.args.item) (the_view c.self.inside) _ _ _ may c.saturating_add-self-inside.ensures held over c.note.ensures)
+
+pub returns-then-is_over-clause-noted : goal.returns-then-is_over-clause-noted
+returns-then-is_over-clause-noted g c = noted_dropped c.self.inside.conn.0 c.self.inside.numbered c.ring_length-held.result (g.N.Net.state c.args.out.now.net) _ _ c.note.ensures
+
+pub returns-clause-passes : goal.returns-clause-passes
+returns-clause-passes g c =
     let same : c.deref.result.now ≡ octets_of c.args.item = c.deref.ensures.value ∙ c.spell.ensures.octets in
-    let size : c.len.result ≡ length (octets_of c.args.item) = c.len.ensures ∙ sym c.deref.ensures.len ∙ ap length same in
-    let written : Writes c.self.inside.conn.0 (octets_of c.args.item) (Accepted c.in-Took.count) (g.N.Net.state c.args.out.now.net) (g.N.Net.state c.write.new.self) =
-    subst (λ (z : List ℕ). Writes c.self.inside.conn.0 z (Accepted c.in-Took.count) (g.N.Net.state c.args.out.now.net) (g.N.Net.state c.write.new.self)) same c.in-Took.ensures.writes in
-    let noted : IsNoted (g.W.Watch.told c.args.out.now.watch) (took c.self.inside.conn.0 (length (octets_of c.args.item)) c.in-Took.count) (g.W.Watch.told c.note.new.self) =
-    subst (λ (z : ℕ). IsNoted (g.W.Watch.told c.args.out.now.watch) (took c.self.inside.conn.0 z c.in-Took.count) (g.W.Watch.told c.note.new.self)) size c.note.ensures in
-    rw (← c.self.view_is) (moves_whole c.self.inside.conn.0 c.self.inside.config.limit c.self.inside.numbered c.saturating_add-self-inside.result c.in-Took.count (octets_of c.args.item) (g.N.Net.state c.args.out.now.net) (g.N.Net.state c.write.new.self) (g.W.Watch.told c.args.out.now.watch) (g.W.Watch.told c.note.new.self) (can_drop c.args.item)
-    c.saturating_add-self-inside.ensures (c.in-Took.ensures.all ∙ ap length same) written noted)
+    let under : can_drop c.args.item ≡ true → length c.self.inside.ring.octets ≤ c.self.inside.config.limit =
+    elim c.else-can_drop.branch [
+      | else-can_drop-via-then-can_drop+else-is_over w ↦ λ _. (let o = w.is_over in let f = w.if-is_over in search rules)
+      | else-can_drop-via-else-can_drop w ↦ λ may. absurd (let f = w.if-can_drop in search rules)
+    ] in
+    let over : HandsOver c.self.inside.conn.0 c.hand_over.result (octets_of c.args.item) c.self.inside.ring c.hand_over.new.ring (g.N.Net.state c.args.out.now.net) (g.N.Net.state c.hand_over.new.out.net) (g.W.Watch.told c.args.out.now.watch) (g.W.Watch.told c.hand_over.new.out.watch) =
+    subst (λ (z : List ℕ). HandsOver c.self.inside.conn.0 c.hand_over.result z c.self.inside.ring c.hand_over.new.ring (g.N.Net.state c.args.out.now.net) (g.N.Net.state c.hand_over.new.out.net) (g.W.Watch.told c.args.out.now.watch) (g.W.Watch.told c.hand_over.new.out.watch)) same c.hand_over.ensures.hands in
+    rw (← c.self.view_is) (passes_put c.self.inside.conn.0 c.self.inside.config.limit c.saturating_add-self-inside.result (can_drop c.args.item) c.hand_over.result (octets_of c.args.item) (the_view c.self.inside) c.self.inside.ring c.hand_over.new.ring _ _ _ _ refl c.saturating_add-self-inside.ensures under over)
 
-pub returns-clause-others : goal.returns-clause-others
-returns-clause-others g c =
-    let size : c.len.result ≡ length c.deref.result.now = c.len.ensures ∙ sym c.deref.ensures.len in
-    let noted : IsNoted (g.W.Watch.told c.args.out.now.watch) (took c.self.inside.conn.0 (length c.deref.result.now) c.in-Took.count) (g.W.Watch.told c.note.new.self) =
-    subst (λ (z : ℕ). IsNoted (g.W.Watch.told c.args.out.now.watch) (took c.self.inside.conn.0 z c.in-Took.count) (g.W.Watch.told c.note.new.self)) size c.note.ensures in
-    rw (← c.self.view_is) (others_took c.self.inside.conn.0 c.in-Took.count c.deref.result.now (g.N.Net.state c.args.out.now.net) (g.N.Net.state c.write.new.self) (g.W.Watch.told c.args.out.now.watch) (g.W.Watch.told c.note.new.self) c.in-Took.ensures.writes noted)
-
-pub returns-clause-noted : goal.returns-clause-noted
-returns-clause-noted g c =
-    let size : c.len.result ≡ length c.deref.result.now = c.len.ensures ∙ sym c.deref.ensures.len in
-    let noted : IsNoted (g.W.Watch.told c.args.out.now.watch) (took c.self.inside.conn.0 (length c.deref.result.now) c.in-Took.count) (g.W.Watch.told c.note.new.self) =
-    subst (λ (z : ℕ). IsNoted (g.W.Watch.told c.args.out.now.watch) (took c.self.inside.conn.0 z c.in-Took.count) (g.W.Watch.told c.note.new.self)) size c.note.ensures in
-    noted_took c.self.inside.conn.0 c.in-Took.count c.deref.result.now (g.N.Net.state c.args.out.now.net) (g.N.Net.state c.write.new.self) (g.W.Watch.told c.args.out.now.watch) (g.W.Watch.told c.note.new.self) c.in-Took.ensures.writes noted
-
-pub returns-in-Failed-clause-front : goal.returns-in-Failed-clause-front
-returns-in-Failed-clause-front g c =
-    rw (← c.self.view_is) (λ failed few pending items stands.
-    front_failed c.self.inside.conn.0 c.deref.result.now _ (g.N.Net.state c.args.out.now.net) (g.N.Net.state c.write.new.self) (g.W.Watch.told c.args.out.now.watch) items
-    c.in-Failed.ensures.writes few stands)
-
-pub returns-clause-offers : goal.returns-clause-offers
-returns-clause-offers g c =
-    let size : c.len.result ≡ length c.deref.result.now = c.len.ensures ∙ sym c.deref.ensures.len in
-    let noted : IsNoted (g.W.Watch.told c.args.out.now.watch) (took c.self.inside.conn.0 (length c.deref.result.now) c.in-Took.count) (g.W.Watch.told c.note.new.self) =
-    subst (λ (z : ℕ). IsNoted (g.W.Watch.told c.args.out.now.watch) (took c.self.inside.conn.0 z c.in-Took.count) (g.W.Watch.told c.note.new.self)) size c.note.ensures in
-    rw (← c.self.view_is) (offers_took c.self.inside.conn.0 c.in-Took.count c.deref.result.now (g.N.Net.state c.args.out.now.net) (g.N.Net.state c.write.new.self) (g.W.Watch.told c.args.out.now.watch) (g.W.Watch.told c.note.new.self) c.in-Took.ensures.writes noted)
+pub returns-clause-dropped : goal.returns-clause-dropped
+returns-clause-dropped g c =
+    let none : is_drop c.hand_over.result ≡ false = undropped_of c.hand_over.result c.hand_over.new.ring.octets c.hand_over.ensures.hands.kept in
+    let may : (can_drop c.args.item && nat_lt c.self.inside.config.limit (length c.self.inside.ring.octets)) ≡ false =
+    elim c.else-can_drop.branch [
+      | else-can_drop-via-then-can_drop+else-is_over w ↦ (let o = w.is_over in let f = w.if-is_over in let over : nat_lt c.self.inside.config.limit (length c.self.inside.ring.octets) ≡ false = search rules in
+          ap (λ (z : Bool). can_drop c.args.item && z) over ∙ and-false (can_drop c.args.item))
+      | else-can_drop-via-else-can_drop w ↦ (let f = w.if-can_drop in let not : can_drop c.args.item ≡ false = search rules in
+          ap (λ (z : Bool). z && nat_lt c.self.inside.config.limit (length c.self.inside.ring.octets)) not)
+    ] in
+    rw (← c.self.view_is) (none ∙ sym may)

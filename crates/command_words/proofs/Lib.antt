@@ -1,0 +1,5 @@
+pub mod Numbers
+pub mod Walked
+pub mod Meant
+pub mod Found
+pub mod Order

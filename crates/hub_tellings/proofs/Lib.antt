@@ -1,0 +1,3 @@
+pub mod RowLemmas
+pub mod Below
+pub mod All

@@ -1,0 +1,4 @@
+pub mod Generator
+pub mod Message
+pub mod Made
+pub mod All

@@ -1,0 +1,11 @@
+//! A schedule that is made from a seed: 64 connections in one room, and 500 rounds of sixteen messages.
+#![tactic(auto)]
+
+mod generator;
+mod message;
+mod schedule;
+
+pub use schedule::made;
+
+#[cfg(test)]
+mod tests;
