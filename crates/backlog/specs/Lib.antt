@@ -1,1 +1,2 @@
 pub mod RingValue
+pub mod All

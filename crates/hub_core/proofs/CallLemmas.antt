@@ -1,8 +1,8 @@
 -- What calls of a hub do, put together from what they do to the hub's state, to the watch and to the net.
-use Rattle.hub_core.proofs.Below.{◌≡◌, ◌≢◌, ◌<◌, ◌≤◌, inl, inr, ℕ, List, [], ◌∷◌, ◌++◌, Option, Some, None, Bool, true, false, cond, not, is_some, IsTrue, nat_eq, length, refl, sym, ap, ◌∙◌, subst, arith, nat_tests, Kind, Text, Binary, Why, Phase, Head, Open, Leaving, Ending, Gone, NoteValue, IsNoted, NetState, Opcode, Begins, opcode_number, Item, is_sent_opcode, is_of, is_open, topics_left, Tell, marked, nothing_told, tell_by, QuietCount, new_count, one_heard, is_reading, is_silent, is_dropped, ShortWhereHeld, HubState, Entry, PartingValue, Server, server, entry_at, no_entry, new_entry, is_gone, has_entry, entry_of, is_present, phase_at, cork_at, pending_at, ring_at, Held, held_at, KeepsLine, Starts, nothing, only, served, Ties, entry_added, entry_new, line_gone, line_still, starts_of, lines_elsewhere_then, Progress, due_of, due_at, topics_at, progress_at, progress_by, may_come, tell_at, CountsBy, counts_at, leaves_at, unless_gone, KeepsFront, Appends, by_cases, clash, or_left, or_right, of_here, of_other, same_counts, proceeds_then, proceeds_first, appends_same, appends_as, appends_after_nothing, TableState, ChangesOne, IsTable, is_kept, TakesDue, table_of, Taken, Arrives, Makes, has_frames, IsSent, Puttable, Kept, ChangesHub, Ends, Notes, Sends, Puts, hub_of, falsely, truly, topics_of, IsHub, none_of}
+use Rattle.hub_core.proofs.Below.{◌≡◌, ◌≢◌, ◌<◌, ◌≤◌, inl, inr, ℕ, List, [], ◌∷◌, ◌++◌, Option, Some, None, Bool, true, false, cond, not, is_some, IsTrue, nat_eq, length, refl, sym, ap, ◌∙◌, subst, arith, nat_tests, Kind, Text, Binary, Why, Phase, Head, Open, Leaving, Ending, Gone, NoteValue, IsNoted, NetState, Opcode, Begins, opcode_number, Item, is_sent_opcode, is_of, is_open, topics_left, Tell, marked, nothing_told, tell_by, QuietCount, new_count, one_heard, is_reading, is_silent, is_dropped, ShortWhereHeld, HubState, Entry, PartingValue, Server, server, entry_at, no_entry, new_entry, is_gone, has_entry, entry_of, is_present, phase_at, cork_at, pending_at, ring_at, Held, held_at, KeepsLine, Starts, nothing, only, served, Ties, entry_added, entry_new, line_gone, line_still, starts_of, lines_elsewhere_then, Progress, due_of, due_at, topics_at, progress_at, progress_by, may_come, tell_at, CountsBy, counts_at, leaves_at, unless_gone, KeepsFront, Appends, by_cases, clash, or_left, or_right, of_here, of_other, same_counts, proceeds_then, proceeds_first, appends_same, appends_as, appends_after_nothing, TableState, ChangesOne, IsTable, is_kept, TakesDue, table_of, Taken, Arrives, Makes, has_frames, IsSent, Puttable, Kept, ChangesHub, Ends, Notes, Sends, Puts, hub_of, falsely, truly, topics_of, IsHub, none_of, tell_of, TellingsState, nothing_of, may_hold}
 use Rattle.ws_kinds.specs.NoteValue as note
 use Rattle.hub_core.proofs.HubSteps.{Enters}
-use Rattle.hub_core.proofs.StateLemmas.{progress_of, table_change, change_named, hub_changed}
+use Rattle.hub_core.proofs.StateLemmas.{progress_of, table_change, change_named, entry_changed}
 use Rattle.hub_core.proofs.NoteLemmas.{is_inner, NotesOne, Notices, notices_none, notices_entered, advances_noted, fails_noted, appends_noted, notes_none, notes_entered, Still, StillOrNew, still_of, still_same, items_still}
 use Rattle.hub_core.proofs.StateLemmas.{same_or_not}
 
@@ -147,15 +147,15 @@ counts_given hub c n none d there = (inl there, one (nat_eq c d) (leaves_at hub 
 
 -- ---- a connection that goes on to another phase
 
--- as long as the table and the topics alone are filled
-pub plain_enters : (c : ℕ) (n : NoteValue) (phase : Phase) (a b : TableState) (p : List (ℕ × List ℕ)) → ChangesOne c a b → entry_of b.entries c ≡ record (entry_of a.entries c) { phase = phase }
-    → progress_at (hub_of b p) c ≡ progress_by n (progress_at (hub_of a p) c) → tell_by c n nothing_told ≡ nothing_told → Enters c n phase (hub_of a p) (hub_of b p)
-plain_enters c n phase a b p change entry progress untold = record { entry = entry; cork = refl; pending = refl; progress = progress; tells = sym untold; change = table_change p change }
+-- as long as nothing is corked or pending
+pub plain_enters : (c : ℕ) (n : NoteValue) (phase : Phase) (a b : TableState) (p : List (ℕ × List ℕ)) (r : TellingsState) → ChangesOne c a b → entry_of b.entries c ≡ record (entry_of a.entries c) { phase = phase }
+    → progress_at (hub_of b p r) c ≡ progress_by n (progress_at (hub_of a p r) c) → tell_by c n (tell_of r.rows c) ≡ tell_of r.rows c → Enters c n phase (hub_of a p r) (hub_of b p r)
+plain_enters c n phase a b p r change entry progress untold = record { entry = entry; cork = refl; pending = refl; progress = progress; tells = sym untold; change = table_change p r change }
 
 -- a request that is admitted or refused
-pub head_progress : (c : ℕ) (n : NoteValue) (phase : Phase) (a b : TableState) (p : List (ℕ × List ℕ)) → (entry_of a.entries c).phase ≡ Head → topics_of p c ≡ [] → entry_of b.entries c ≡ record (entry_of a.entries c) { phase = phase }
-    → due_of b.partings c ≡ due_of a.partings c → ((due : Option (ℕ × List ℕ)) → progress_of phase [] due ≡ progress_by n (progress_of Head [] due)) → progress_at (hub_of b p) c ≡ progress_by n (progress_at (hub_of a p) c)
-head_progress c n phase a b p was none entry due step =
+pub head_progress : (c : ℕ) (n : NoteValue) (phase : Phase) (a b : TableState) (p : List (ℕ × List ℕ)) (r : TellingsState) → (entry_of a.entries c).phase ≡ Head → topics_of p c ≡ [] → entry_of b.entries c ≡ record (entry_of a.entries c) { phase = phase }
+    → due_of b.partings c ≡ due_of a.partings c → ((due : Option (ℕ × List ℕ)) → progress_of phase [] due ≡ progress_by n (progress_of Head [] due)) → progress_at (hub_of b p r) c ≡ progress_by n (progress_at (hub_of a p r) c)
+head_progress c n phase a b p r was none entry due step =
     ap (λ (z : Entry). progress_of z.phase (topics_of p c) (due_of b.partings c)) entry ∙ ap (λ (z : List (List ℕ)). progress_of phase z (due_of b.partings c)) none ∙ ap (progress_of phase []) due
     ∙ step (due_of a.partings c) ∙ ap (λ (z : Phase). progress_by n (progress_of z [] (due_of a.partings c))) (sym was)
     ∙ ap (λ (z : List (List ℕ)). progress_by n (progress_of (entry_of a.entries c).phase z (due_of a.partings c))) (sym none)
@@ -170,16 +170,17 @@ opened_untold c route param = marked_none (nat_eq c c)
 pub opened_elsewhere : (c route : ℕ) (param : List ℕ) (d : ℕ) → d ≢ c → (t : Tell) → tell_by d (note.opened c route param) t ≡ t
 opened_elsewhere c route param d ne t = ap (λ (z : Bool). cond z (marked t) t) (of_other c d ne)
 
--- the note of a request's answer, as long as the table and the topics alone are filled
-pub head_notices : (c : ℕ) (n : NoteValue) (phase : Phase) (a b : TableState) (p : List (ℕ × List ℕ)) (net : NetState) (t t' : Option (List NoteValue)) → IsHub a p → phase_at (hub_of a p) c ≡ Some Head
+-- the note of a request's answer
+pub head_notices : (c : ℕ) (n : NoteValue) (phase : Phase) (a b : TableState) (p : List (ℕ × List ℕ)) (r : TellingsState) (net : NetState) (t t' : Option (List NoteValue)) → IsHub a p r → phase_at (hub_of a p r) c ≡ Some Head
     → entry_of b.entries c ≡ record (entry_of a.entries c) { phase = phase }
     → due_of b.partings c ≡ due_of a.partings c → ChangesOne c a b → IsNoted t n t' → is_gone phase ≡ false → ((due : Option (ℕ × List ℕ)) → progress_of phase [] due ≡ progress_by n (progress_of Head [] due)) → may_come (Some Head) n ≡ true
     → is_inner n ≡ true → ((d : ℕ) → is_silent d n ≡ true) → is_of c n ≡ true → ((d : ℕ) → d ≢ c → is_of d n ≡ false) → tell_by c n nothing_told ≡ nothing_told → ((d : ℕ) → d ≢ c → (u : Tell) → tell_by d n u ≡ u)
-    → Notices c n (server (hub_of a p) net t) (server (hub_of b p) net t')
-head_notices c n phase a b p net t t' whole head entry due change told there step may inner silent own others untold elsewhere =
-    let was : (entry_of a.entries c).phase ≡ Head = phase_known (hub_of a p) c Head head in
+    → Notices c n (server (hub_of a p r) net t) (server (hub_of b p r) net t')
+head_notices c n phase a b p r net t t' whole head entry due change told there step may inner silent own others untold elsewhere =
+    let was : (entry_of a.entries c).phase ≡ Head = phase_known (hub_of a p r) c Head head in
+    let quiet : tell_of r.rows c ≡ nothing_told = nothing_of r.rows c (whole.rows c (ap may_hold was)) in
     let none : topics_of p c ≡ [] = whole.topics c (ap (λ (z : Phase). is_open (Some z)) was) in
-    let e : Enters c n phase (hub_of a p) (hub_of b p) = plain_enters c n phase a b p change entry (head_progress c n phase a b p was none entry due step) untold in
+    let e : Enters c n phase (hub_of a p r) (hub_of b p r) = plain_enters c n phase a b p r change entry (head_progress c n phase a b p r was none entry due step) (ap (tell_by c n) quiet ∙ untold ∙ sym quiet) in
     let gone : is_gone phase ≡ is_gone (entry_of a.entries c).phase = there ∙ sym (ap is_gone was) in
     notices_entered e net t t' told inner silent (notes_entered e others own (ap (λ (z : Phase). may_come (unless_gone (Some z)) n) was ∙ may) elsewhere gone) gone
 
@@ -373,9 +374,9 @@ makes_none {a} {c} x n net t t' others may still untold inner told =
       fails = fails_noted n net inner;
     }
 
--- as long as the table and the topics alone are filled
-pub plain_next : (a : TableState) (p : List (ℕ × List ℕ)) (c : ℕ) → IsHub a p → a.named < c → IsNext (hub_of a p) c
-plain_next a p c whole above = record {
+-- as long as nothing is corked or pending
+pub plain_next : (a : TableState) (p : List (ℕ × List ℕ)) (r : TellingsState) (c : ℕ) → IsHub a p r → a.named < c → IsNext (hub_of a p r) c
+plain_next a p r c whole above = record {
   table = whole.table;
   above = above;
   topics = whole.topics c (ap (λ (z : Entry). is_open (Some z.phase)) (none_of a.entries c (unnamed a c whole.table above)));
@@ -383,10 +384,15 @@ plain_next a p c whole above = record {
   pending = refl;
 }
 
--- who was accepted has no topics yet
-pub hub_accepted : (a b : TableState) (p : List (ℕ × List ℕ)) (c : ℕ) → IsHub a p → a.named < c → b ≡ record a { named = c; entries = a.entries ++ new_entry a.config c ∷ [] } → IsTable b → IsHub b p
-hub_accepted a b p c was above same table = hub_changed was table (λ x ne. ap (λ (z : TableState). entry_of z.entries x) same ∙ entry_added a.entries (new_entry a.config c) x ne) (λ x ne. refl)
-    (λ off. (plain_next a p c was above).topics)
+-- who was accepted has no topics and no row yet
+pub hub_accepted : (a b : TableState) (p : List (ℕ × List ℕ)) (r : TellingsState) (c : ℕ) → IsHub a p r → a.named < c → b ≡ record a { named = c; entries = a.entries ++ new_entry a.config c ∷ [] } → IsTable b → IsHub b p r
+hub_accepted a b p r c was above same table =
+    let none : has_entry a.entries c ≡ false = unnamed a c was.table above in
+    let is : entry_of b.entries c ≡ new_entry a.config c = ap (λ (z : TableState). entry_of z.entries c) same ∙ entry_new a.entries (new_entry a.config c) none in
+    entry_changed was table (ap (λ z. z.config) same) (λ x ne. ap (λ (z : TableState). entry_of z.entries x) same ∙ entry_added a.entries (new_entry a.config c) x ne)
+    (λ off. (plain_next a p r c was above).topics)
+    (λ off. was.rows c (ap (λ (z : Entry). may_hold z.phase) (none_of a.entries c none)))
+    (λ some. absurd (some (ap (λ (z : Entry). z.ring) is)))
 
 -- ---- a Closed event that is handed out
 
@@ -454,36 +460,36 @@ module _ {c : ℕ} {a b : HubState} (f : Forgets c a b) where
     waits = λ w d there some. w d (ap not (was_there d there)) (λ none. some (ring_as d there ∙ none));
   }
 
--- as long as the table and the topics alone are filled
-plain_forgets : (c : ℕ) (a b : TableState) (p : List (ℕ × List ℕ)) → entry_of b.entries c ≡ cond (is_gone (entry_of a.entries c).phase) no_entry (entry_of a.entries c) → ChangesOne c a b → Forgets c (hub_of a p) (hub_of b p)
-plain_forgets c a b p entry change = record { entry = entry; cork = refl; pending = refl; change = table_change p change }
+-- as long as nothing is corked or pending
+plain_forgets : (c : ℕ) (a b : TableState) (p : List (ℕ × List ℕ)) (r : TellingsState) → entry_of b.entries c ≡ cond (is_gone (entry_of a.entries c).phase) no_entry (entry_of a.entries c) → ChangesOne c a b → Forgets c (hub_of a p r) (hub_of b p r)
+plain_forgets c a b p r entry change = record { entry = entry; cork = refl; pending = refl; change = table_change p r change }
 
-pub appends_taken : (o : Option PartingValue) (a b : TableState) (p : List (ℕ × List ℕ)) (net : NetState) (t : Option (List NoteValue)) → TakesDue o a b → Appends nothing (server (hub_of a p) net t) (server (hub_of b p) net t)
-appends_taken None a b p net t takes = subst (λ (z : TableState). Appends nothing (server (hub_of a p) net t) (server (hub_of z p) net t)) (sym takes.0) (appends_same (server (hub_of a p) net t))
-appends_taken (Some parting) a b p net t takes = appends_forgotten (plain_forgets parting.conn a b p takes.3 takes.4) net t
+pub appends_taken : (o : Option PartingValue) (a b : TableState) (p : List (ℕ × List ℕ)) (r : TellingsState) (net : NetState) (t : Option (List NoteValue)) → TakesDue o a b → Appends nothing (server (hub_of a p r) net t) (server (hub_of b p r) net t)
+appends_taken None a b p r net t takes = subst (λ (z : TableState). Appends nothing (server (hub_of a p r) net t) (server (hub_of z p r) net t)) (sym takes.0) (appends_same (server (hub_of a p r) net t))
+appends_taken (Some parting) a b p r net t takes = appends_forgotten (plain_forgets parting.conn a b p r takes.3 takes.4) net t
 
-pub ties_taken : (o : Option PartingValue) (a b : TableState) (p : List (ℕ × List ℕ)) (net : NetState) (t : Option (List NoteValue)) → TakesDue o a b → Ties (server (hub_of a p) net t) → Ties (server (hub_of b p) net t)
-ties_taken None a b p net t takes ties = subst (λ (z : TableState). Ties (server (hub_of z p) net t)) (sym takes.0) ties
-ties_taken (Some parting) a b p net t takes ties = ties_forgotten (plain_forgets parting.conn a b p takes.3 takes.4) net t ties
+pub ties_taken : (o : Option PartingValue) (a b : TableState) (p : List (ℕ × List ℕ)) (r : TellingsState) (net : NetState) (t : Option (List NoteValue)) → TakesDue o a b → Ties (server (hub_of a p r) net t) → Ties (server (hub_of b p r) net t)
+ties_taken None a b p r net t takes ties = subst (λ (z : TableState). Ties (server (hub_of z p r) net t)) (sym takes.0) ties
+ties_taken (Some parting) a b p r net t takes ties = ties_forgotten (plain_forgets parting.conn a b p r takes.3 takes.4) net t ties
 
--- a Closed event leaves who is open
-pub hub_taken : (o : Option PartingValue) (a b : TableState) (p : List (ℕ × List ℕ)) → TakesDue o a b → IsTable b → IsHub a p → IsHub b p
-hub_taken None a b p takes table was = subst (λ (z : TableState). IsHub z p) (sym takes.0) was
-hub_taken (Some parting) a b p takes table was = hub_changed was table takes.4.entries (λ x ne. refl) (λ off. was.topics parting.conn (one (entry_of a.entries parting.conn) (ap (λ (z : Entry). is_open (Some z.phase)) (sym takes.3) ∙ off)))
+-- a Closed event leaves who is not gone
+pub hub_taken : (o : Option PartingValue) (a b : TableState) (p : List (ℕ × List ℕ)) (r : TellingsState) → TakesDue o a b → IsTable b → IsHub a p r → IsHub b p r
+hub_taken None a b p r takes table was = subst (λ (z : TableState). IsHub z p r) (sym takes.0) was
+hub_taken (Some parting) a b p r takes table was = by_cases (is_gone (entry_of a.entries parting.conn).phase)
+    (λ e. let is : entry_of b.entries parting.conn ≡ no_entry = takes.3 ∙ ap (λ (z : Bool). cond z no_entry (entry_of a.entries parting.conn)) e in
+    let none = gone_shut (entry_of a.entries parting.conn).phase e in
+    entry_changed was table takes.4.config takes.4.entries (λ off. was.topics parting.conn none.0) (λ off. was.rows parting.conn none.1) (λ some. absurd (some (ap (λ (z : Entry). z.ring) is))))
+    (λ e. let is : entry_of b.entries parting.conn ≡ entry_of a.entries parting.conn = takes.3 ∙ ap (λ (z : Bool). cond z no_entry (entry_of a.entries parting.conn)) e in
+    entry_changed was table takes.4.config takes.4.entries
+    (λ off. was.topics parting.conn (ap (λ (z : Entry). is_open (Some z.phase)) (sym is) ∙ off)) (λ off. was.rows parting.conn (ap (λ (z : Entry). may_hold z.phase) (sym is) ∙ off))
+    (λ some. was.held parting.conn (λ none. some (ap (λ (z : Entry). z.ring) is ∙ none))))
   where
-    one : (entry : Entry) → is_open (Some (cond (is_gone entry.phase) no_entry entry).phase) ≡ false → is_open (Some entry.phase) ≡ false
-    one entry off = by_phase (is_gone entry.phase) refl off
-      where
-        by_phase : (gone : Bool) → is_gone entry.phase ≡ gone → is_open (Some (cond gone no_entry entry).phase) ≡ false → is_open (Some entry.phase) ≡ false
-        by_phase true e _ = not_open entry.phase e
-          where
-            not_open : (phase : Phase) → is_gone phase ≡ true → is_open (Some phase) ≡ false
-            not_open Gone e = refl
-            not_open Head e = clash false refl e
-            not_open Open e = clash false refl e
-            not_open Leaving e = clash false refl e
-            not_open Ending e = clash false refl e
-        by_phase false e off = off
+    gone_shut : (phase : Phase) → is_gone phase ≡ true → (is_open (Some phase) ≡ false) × (may_hold phase ≡ false)
+    gone_shut Gone e = (refl, refl)
+    gone_shut Head e = clash false refl e
+    gone_shut Open e = clash false refl e
+    gone_shut Leaving e = clash false refl e
+    gone_shut Ending e = clash false refl e
 
 -- ---- frames that are put
 

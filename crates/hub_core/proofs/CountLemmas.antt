@@ -1,10 +1,10 @@
 -- How many subscribed to a topic.
-use Rattle.hub_core.proofs.Below.{◌≡◌, ◌<◌, ◌≤◌, ◌+◌, ℕ, suc, zero, List, [], Option, Some, Bool, true, false, cond, not, ◌&&◌, nat_eq, nat_lt, refl, sym, ap, ◌∙◌, subst, arith, entry_of, has_entry, by_cases, clash, present_entry, is_gone, Phase, Head, Open, Leaving, Ending, Gone, TableState, nat_tests, topics_of, has_topic, is_pair, IsNext, IsLast, is_open, is_sender, receives, IsHub, count_below}
+use Rattle.hub_core.proofs.Below.{◌≡◌, ◌<◌, ◌≤◌, ◌+◌, ℕ, suc, zero, List, [], Option, Some, Bool, true, false, cond, not, ◌&&◌, nat_eq, nat_lt, refl, sym, ap, ◌∙◌, subst, arith, entry_of, has_entry, by_cases, clash, present_entry, is_gone, Phase, Head, Open, Leaving, Ending, Gone, TableState, nat_tests, topics_of, has_topic, is_pair, IsNext, IsLast, is_open, is_sender, receives, IsHub, count_below, TellingsState}
 
 -- ---- who is subscribed
 
-pub subscriber_open : (a : TableState) (p : List (ℕ × List ℕ)) (topic : List ℕ) (c : ℕ) → IsHub a p → is_pair p topic c ≡ true → is_open (Some (entry_of a.entries c).phase) ≡ true
-subscriber_open a p topic c whole has = by_cases (is_open (Some (entry_of a.entries c).phase)) (λ e. e) (λ off. clash false refl (ap (has_topic topic) (sym (whole.topics c off)) ∙ has))
+pub subscriber_open : (a : TableState) (p : List (ℕ × List ℕ)) (r : TellingsState) (topic : List ℕ) (c : ℕ) → IsHub a p r → is_pair p topic c ≡ true → is_open (Some (entry_of a.entries c).phase) ≡ true
+subscriber_open a p r topic c whole has = by_cases (is_open (Some (entry_of a.entries c).phase)) (λ e. e) (λ off. clash false refl (ap (has_topic topic) (sym (whole.topics c off)) ∙ has))
 
 not_gone : (phase : Phase) → is_open (Some phase) ≡ true → not (is_gone phase) ≡ true
 not_gone Open e = refl
@@ -13,18 +13,18 @@ not_gone Leaving e = clash false refl e
 not_gone Ending e = clash false refl e
 not_gone Gone e = clash false refl e
 
-pub subscriber_present : (a : TableState) (p : List (ℕ × List ℕ)) (topic : List ℕ) (c : ℕ) → IsHub a p → is_pair p topic c ≡ true → not (is_gone (entry_of a.entries c).phase) ≡ true
-subscriber_present a p topic c whole has = not_gone (entry_of a.entries c).phase (subscriber_open a p topic c whole has)
+pub subscriber_present : (a : TableState) (p : List (ℕ × List ℕ)) (r : TellingsState) (topic : List ℕ) (c : ℕ) → IsHub a p r → is_pair p topic c ≡ true → not (is_gone (entry_of a.entries c).phase) ≡ true
+subscriber_present a p r topic c whole has = not_gone (entry_of a.entries c).phase (subscriber_open a p r topic c whole has)
 
-subscriber_entry : (a : TableState) (p : List (ℕ × List ℕ)) (topic : List ℕ) (c : ℕ) → IsHub a p → is_pair p topic c ≡ true → has_entry a.entries c ≡ true
-subscriber_entry a p topic c whole has = present_entry a.entries c (subscriber_present a p topic c whole has)
+subscriber_entry : (a : TableState) (p : List (ℕ × List ℕ)) (r : TellingsState) (topic : List ℕ) (c : ℕ) → IsHub a p r → is_pair p topic c ≡ true → has_entry a.entries c ≡ true
+subscriber_entry a p r topic c whole has = present_entry a.entries c (subscriber_present a p r topic c whole has)
 
-pub subscriber_known : (a : TableState) (p : List (ℕ × List ℕ)) (topic : List ℕ) (c : ℕ) → IsHub a p → is_pair p topic c ≡ true → c ≤ a.named
-subscriber_known a p topic c whole has = whole.table.named c (subscriber_entry a p topic c whole has)
+pub subscriber_known : (a : TableState) (p : List (ℕ × List ℕ)) (r : TellingsState) (topic : List ℕ) (c : ℕ) → IsHub a p r → is_pair p topic c ≡ true → c ≤ a.named
+subscriber_known a p r topic c whole has = whole.table.named c (subscriber_entry a p r topic c whole has)
 
 -- number 0 is none
-pub zero_topics : (a : TableState) (p : List (ℕ × List ℕ)) → IsHub a p → topics_of p 0 ≡ []
-zero_topics a p whole = whole.topics 0 (by_cases (is_open (Some (entry_of a.entries 0).phase))
+pub zero_topics : (a : TableState) (p : List (ℕ × List ℕ)) (r : TellingsState) → IsHub a p r → topics_of p 0 ≡ []
+zero_topics a p r whole = whole.topics 0 (by_cases (is_open (Some (entry_of a.entries 0).phase))
     (λ e. absurd (let h = whole.table.first 0 (present_entry a.entries 0 (not_gone (entry_of a.entries 0).phase e)) in omega arith))
     (λ e. e))
 
@@ -69,11 +69,11 @@ module _ (p : List (ℕ × List ℕ)) (sender : Option ℕ) (topic : List ℕ) w
   count_end after named count so_far le last = so_far ∙ sym (count_skips (receives p sender topic) (suc after) (suc named) (omega arith) (λ c a b. none_between c (last c (omega arith))))
 
   -- where nobody is counted, nobody gets it
-  pub nobody : (a : TableState) → IsHub a p → count_below (receives p sender topic) (suc a.named) ≡ 0 → (c : ℕ) → receives p sender topic c ≡ false
-  nobody a whole none c = by_cases (nat_lt c (suc a.named))
+  pub nobody : (a : TableState) (r : TellingsState) → IsHub a p r → count_below (receives p sender topic) (suc a.named) ≡ 0 → (c : ℕ) → receives p sender topic c ≡ false
+  nobody a r whole none c = by_cases (nat_lt c (suc a.named))
       (λ e. none_counted (receives p sender topic) (suc a.named) none c (grind (arith, nat_tests)))
       (λ e. by_cases (is_pair p topic c)
-      (λ has. absurd (let h = subscriber_known a p topic c whole has in let k : suc a.named ≤ c = grind (arith, nat_tests) in omega arith))
+      (λ has. absurd (let h = subscriber_known a p r topic c whole has in let k : suc a.named ≤ c = grind (arith, nat_tests) in omega arith))
       (λ has. none_between c has))
 
   pub count_begins : topics_of p 0 ≡ [] → 0 ≡ count_below (receives p sender topic) (suc 0)

@@ -1,5 +1,5 @@
 -- What it leaves of a hub that a connection becomes gone.
-use Rattle.hub_core.proofs.Below.{◌≤◌, ◌≡◌, ◌≢◌, ◌<◌, ◌+◌, ◌^◌, ◌-◌, inl, ℕ, List, [], ◌∷◌, ◌++◌, Option, Some, None, Bool, true, false, cond, nat_eq, not, ◌&&◌, ◌||◌, length, refl, sym, ap, ◌∙◌, subst, append-nil, arith, ⊎_elim, cases_eq, Left, PeerEnd, LinkFailed, Idle, Finished, Phase, Head, Open, Leaving, Ending, Gone, NoteValue, NetState, Item, is_gone_in, is_left, taken_of, is_dropped, ShortWhereHeld, Entry, Server, entry_at, numbered_at, ring_at, pending_at, is_gone, is_present, Held, held_at, held_octets, Stands, StandsFor, IsCounted, Others, Beside, Ties, SameElsewhere, SameLinesElsewhere, ShortRings, nothing, kept_same, taken_shut, others_shut, keeps_of, line_gone, ties_shut, AreNoted, TrafficAfter, NetAfter, RoseBy, FailsAfter, TakesFront, TakesAll, SameDrops, KeepsFront, KeepsFronts, RingsWait, items_at, unless_gone, progress_at, progress_by, progress_after_all, may_come, may_all_come, may_leave_by, due_at, topics_at, Advances, Appends, clash, or_false, same_number, other_number, told_one, IsTable, table_of, due_when_gone, tell_at, SameCounts, nothing_told, tell_by_all, topics_left, Leaves, Goes, Notes, LosesLink, is_open}
+use Rattle.hub_core.proofs.Below.{◌≤◌, ◌≡◌, ◌≢◌, ◌<◌, ◌+◌, ◌^◌, ◌-◌, inl, ℕ, List, [], ◌∷◌, ◌++◌, Option, Some, None, Bool, true, false, cond, nat_eq, not, ◌&&◌, ◌||◌, length, refl, sym, ap, ◌∙◌, subst, append-nil, arith, ⊎_elim, cases_eq, Left, PeerEnd, LinkFailed, Idle, Finished, Phase, Head, Open, Leaving, Ending, Gone, NoteValue, NetState, Item, is_gone_in, is_left, taken_of, is_dropped, ShortWhereHeld, Entry, Server, entry_at, numbered_at, ring_at, pending_at, is_gone, is_present, Held, held_at, held_octets, Stands, StandsFor, IsCounted, Others, Beside, Ties, SameElsewhere, SameLinesElsewhere, ShortRings, nothing, kept_same, taken_shut, others_shut, keeps_of, line_gone, ties_shut, AreNoted, TrafficAfter, NetAfter, RoseBy, FailsAfter, TakesFront, TakesAll, SameDrops, KeepsFront, KeepsFronts, RingsWait, items_at, unless_gone, progress_at, progress_by, progress_after_all, may_come, may_all_come, may_leave_by, due_at, topics_at, Advances, Appends, clash, or_false, same_number, other_number, told_one, IsTable, table_of, due_when_gone, tell_at, SameCounts, nothing_told, tell_by_all, topics_left, Leaves, Goes, Notes, LosesLink, is_open, Waits}
 use Rattle.ws_kinds.specs.NoteValue as note
 use Rattle.hub_core.proofs.SentLemmas.{progress_with, short_still}
 use Rattle.hub_core.proofs.StateLemmas.{progress_of, is_away, is_there, change_present, change_progress, change_elsewhere, entry_kept, beside_change, lines_elsewhere, told_before, drops_same, front_still}
@@ -253,11 +253,12 @@ module _ {c : ℕ} {left : Left} {a b : Server} (l : Leaves c left a b) where
       (λ (ne : x ≢ c). leave_short_other x ne (short x (sym (leave_present x ne) ∙ there)))
       (cases_eq x c)
 
-  pub leave_waits : RingsWait a → RingsWait b
+  -- whatever is in the connection's own ring
+  pub leave_waits : ((x : ℕ) → x ≢ c → Waits x a) → RingsWait b
   leave_waits waits x there some = ⊎_elim
       (λ (q : x ≡ c). clash (is_present b.hub x) (ap (λ (z : ℕ). is_present b.hub z) q ∙ leave_gone) there)
       (λ (ne : x ≢ c). l.shuts.writable_elsewhere x ne
-      ∙ waits x (sym (leave_present x ne) ∙ there) (λ none. some (ap (λ (z : Entry). z.ring) (l.change.table.entries x ne) ∙ none)))
+      ∙ waits x ne (sym (leave_present x ne) ∙ there) (λ none. some (ap (λ (z : Entry). z.ring) (l.change.table.entries x ne) ∙ none)))
       (cases_eq x c)
 
   -- nothing is appended
@@ -266,7 +267,7 @@ module _ {c : ℕ} {left : Left} {a b : Server} (l : Leaves c left a b) where
     lines = keeps_of c nothing a b leave_beside (λ x ne. refl) (line_gone c [] a b leave_gone);
     fronts = leave_fronts there;
     short = leave_short;
-    waits = leave_waits;
+    waits = λ waits. leave_waits (λ x ne. waits x);
   }
 
   -- the link took all items of a connection for which nothing was held

@@ -8,6 +8,9 @@ pub mod FailLemmas
 pub mod NoteLemmas
 pub mod CallLemmas
 pub mod TurnLemmas
+pub mod RowLemmas
+pub mod OfferLemmas
+pub mod ToldLemmas
 pub mod OrderLemmas
 pub mod StandLemmas
 pub mod SubscribeLemmas

@@ -1,5 +1,5 @@
 -- Orders that are served or refused.
-use Rattle.hub_core.proofs.Below.{◌≡◌, ℕ, List, [], ◌∷◌, ◌++◌, Option, Some, None, Bool, true, false, cond, nat_eq, refl, sym, ap, ◌∙◌, subst, Kind, Phase, Head, Open, Leaving, Ending, Gone, Why, ConfigValue, NoteValue, IsNoted, unless_gone, why_send, every_topic, HubState, Server, server, phase_at, has_entry, entry_at, nothing, standings_at, Serves, does_notes, TopicsEnd, none_of, OrderValue, publish, NetState, is_open, why_at, why_publish, needs_memory, by_note, MayRefuse, for_reason, refuses, entry_of, Ties, published, served_by, obeys_same, Publishes, IsTable, TableState, table_of, IsHub, hub_of, NotesUnserved, ServesOrder}
+use Rattle.hub_core.proofs.Below.{◌≡◌, ℕ, List, [], ◌∷◌, ◌++◌, Option, Some, None, Bool, true, false, cond, nat_eq, refl, sym, ap, ◌∙◌, subst, Kind, Phase, Head, Open, Leaving, Ending, Gone, Why, ConfigValue, NoteValue, IsNoted, unless_gone, why_send, every_topic, HubState, Server, server, phase_at, has_entry, entry_at, nothing, standings_at, Serves, does_notes, TopicsEnd, none_of, OrderValue, publish, NetState, is_open, why_at, why_publish, needs_memory, by_note, MayRefuse, for_reason, refuses, entry_of, Ties, published, served_by, obeys_same, Publishes, IsTable, TableState, table_of, IsHub, hub_of, NotesUnserved, ServesOrder, TellingsState}
 use Rattle.ws_kinds.specs.NoteValue as note
 use Rattle.hub_core.proofs.NoteLemmas.{Notices, notices_none}
 use Rattle.hub_core.proofs.CallLemmas.{notes_unserved}
@@ -60,8 +60,8 @@ shown_open Leaving = refl
 shown_open Ending = refl
 shown_open Gone = refl
 
-pub open_alone : (a : TableState) (p : List (ℕ × List ℕ)) (net : NetState) (t : Option (List NoteValue)) → IsHub a p → TopicsEnd (server (hub_of a p) net t)
-open_alone a p net t whole c off = whole.topics c (sym (shown_open (entry_of a.entries c).phase) ∙ off)
+pub open_alone : (a : TableState) (p : List (ℕ × List ℕ)) (r : TellingsState) (net : NetState) (t : Option (List NoteValue)) → IsHub a p r → TopicsEnd (server (hub_of a p r) net t)
+open_alone a p r net t whole c off = whole.topics c (sym (shown_open (entry_of a.entries c).phase) ∙ off)
 
 -- a message that is published
 pub order_published : (from number : ℕ) (topic : List ℕ) (kind : Kind) (body : List ℕ) (a b : Server) → why_publish a.hub.config topic kind body ≡ None → TopicsEnd a → Publishes (Some from) topic kind body a b → ServesOrder from number (publish topic kind body) a b

@@ -1,5 +1,5 @@
--- What putting an item leaves of a hub, whether or not the connection's link fails.
-use Rattle.hub_core.proofs.Below.{◌≤◌, ◌≡◌, ◌≢◌, ◌<◌, ◌+◌, ◌^◌, ◌-◌, inl, ℕ, List, [], ◌∷◌, ◌++◌, Bool, true, false, min, not, ◌&&◌, ◌||◌, length, refl, sym, ap, ◌∙◌, subst, append-nil, arith, ⊎_elim, cases_eq, nat_tests, LinkFailed, NoteValue, spelled, writes, taken, number_of, is_gone_in, is_gone_by_in, nothing_told, tell_by_all, ShortWhereHeld, Entry, Server, entry_at, numbered_at, pending_at, is_gone, is_present, Moves, buffered_at, KeepsLine, Beside, Ties, SameLinesElsewhere, ShortRings, only, line_put, keeps_only, only_here, only_other, ties_same, is_link_failure, TrafficAfter, NetAfter, RoseBy, FailsAfter, KeepsFront, KeepsFronts, RingsWait, progress_at, tell_at, SameCounts, count_of, Advances, Proceeds, Appends, clash, can_drop, IsSent, TellsRing, TellsFailure, LeavesLinkWhole, Kept, Clear, Backlog, Dropped, Failed, TellsPut, PutsItem, tell_after}
+-- What it leaves of a hub that an item is put, or that what is held is offered, whether or not the connection's link fails.
+use Rattle.hub_core.proofs.Below.{◌≤◌, ◌≡◌, ◌≢◌, ◌<◌, ◌+◌, ◌^◌, ◌-◌, inl, ℕ, List, [], ◌∷◌, ◌++◌, Bool, true, false, min, not, ◌&&◌, ◌||◌, length, refl, sym, ap, ◌∙◌, subst, append-nil, arith, ⊎_elim, cases_eq, nat_tests, LinkFailed, NoteValue, spelled, writes, taken, number_of, is_gone_in, is_gone_by_in, tell_by_all, ShortWhereHeld, Entry, Server, entry_at, numbered_at, pending_at, is_gone, is_present, Moves, buffered_at, KeepsLine, Beside, Ties, SameLinesElsewhere, ShortRings, only, line_put, only_here, only_other, ties_same, is_link_failure, TrafficAfter, NetAfter, RoseBy, FailsAfter, KeepsFront, RingsWait, progress_at, tell_at, SameCounts, count_of, Advances, Proceeds, Appends, clash, can_drop, IsSent, TellsRing, TellsFailure, LeavesLinkWhole, Kept, Clear, Backlog, Dropped, Failed, TellsPut, PutsItem, Passes, keeps_of, Waits}
 use Rattle.wire_meaning.specs.Answer as answer
 use Rattle.hub_lines.specs.Items as lines
 use Rattle.socket_core.specs.declared.item.Item.{Item}
@@ -8,14 +8,10 @@ use Rattle.hub_core.proofs.ItemLemmas.{octets_sent, drops_sent}
 use Rattle.hub_core.proofs.StateLemmas.{phase_there, phase_twice, is_there, progress_same, present_same, change_phase, change_progress, beside_change, lines_elsewhere, front_still, told_before}
 use Rattle.hub_core.proofs.NoteLemmas.{counts_changed}
 
--- no item is dropped as long as nothing is held back
-pub told_put : (limit : ℕ) (kept : Kept) (ring : List ℕ) → ring ≡ [] → TellsRing limit kept ring → nothing_told ≡ tell_after kept nothing_told
-told_put limit Clear ring none e = refl
-told_put limit (Backlog held) ring none e = refl
-told_put limit (Dropped held) ring none e = absurd (let less = e.0 in let is = e.1 in let zero = ap length none in omega arith)
-told_put limit Failed ring none e = refl
+counts_more : (i j k l m n last : ℕ) → j ≡ min (i + n) last → k ≡ 0 → l ≡ 0 → m ≡ n → (i + k) + m < last → j + l ≡ (i + k) + m
+counts_more i j k l m n last e before after same few = grind (arith, nat_tests)
 
-module _ {c : ℕ} {item : Item} {kept : Kept} {a b : Server} (p : PutsItem c item kept a b) where
+module _ {c : ℕ} {may_drop : Bool} {popped : List (List ℕ)} {kept : Kept} {a b : Server} (p : Passes c may_drop popped kept a b) where
   -- ---- whatever the answer
 
   pub put_phase : (x : ℕ) → (entry_at b.hub x).phase ≡ (entry_at a.hub x).phase
@@ -127,11 +123,15 @@ module _ {c : ℕ} {item : Item} {kept : Kept} {a b : Server} (p : PutsItem c it
   put_short_other x ne s = subst (λ (z : Entry). ShortWhereHeld x z.ring b.told) (sym (p.elsewhere.table.entries x ne))
       (short_still x (entry_at a.hub x).ring a.told b.told p.offers.notes p.offers.told (sent_silent c x p.offers.notes ne p.offers.own) s)
 
+  -- another connection's ring is as it was, and so is whether its link takes octets
+  pub put_waits_other : (x : ℕ) → x ≢ c → Waits x a → Waits x b
+  put_waits_other x ne waits there some = p.net.writable x ne ∙ waits (sym (put_present x) ∙ there) (λ none. some (ap (λ (z : Entry). z.ring) (p.elsewhere.table.entries x ne) ∙ none))
+
   pub put_waits : RingsWait a → RingsWait b
   put_waits waits x there some = ⊎_elim
-      (λ (q : x ≡ c). subst (λ (z : ℕ). b.net.writable z ≡ false) (sym q) (p.waits (λ none. some (ap (λ (z : ℕ). (entry_at b.hub z).ring) q ∙ none))))
-      (λ (ne : x ≢ c). p.net.writable x ne
-      ∙ waits x (sym (put_present x) ∙ there) (λ none. some (ap (λ (z : Entry). z.ring) (p.elsewhere.table.entries x ne) ∙ none)))
+      (λ (q : x ≡ c). subst (λ (z : ℕ). b.net.writable z ≡ false) (sym q)
+      (p.waits (waits c (ap (is_present a.hub) (sym q) ∙ sym (put_present x) ∙ there)) (λ none. some (ap (λ (z : ℕ). (entry_at b.hub z).ring) q ∙ none))))
+      (λ (ne : x ≢ c). put_waits_other x ne (waits x) there some)
       (cases_eq x c)
 
   -- ---- no write failed
@@ -170,41 +170,6 @@ module _ {c : ℕ} {item : Item} {kept : Kept} {a b : Server} (p : PutsItem c it
     fails = subst (λ (z : List NoteValue). FailsAfter z a.net b.net) (sym (append-nil p.offers.notes)) (put_fails ok);
   }
 
-  put_moves : (sent : answer.Item) → IsSent item sent → kept ≢ Failed
-      → Moves c a.hub.config.limit (lines.can_drop sent) (spelled sent ∷ []) (buffered_at a.hub c) (buffered_at b.hub c) a.net b.net a.told b.told
-  put_moves sent s ok =
-      subst (λ (z : Bool). Moves c a.hub.config.limit z (spelled sent ∷ []) (buffered_at a.hub c) (buffered_at b.hub c) a.net b.net a.told b.told) (drops_sent item sent s)
-      (subst (λ (z : List ℕ). Moves c a.hub.config.limit (can_drop item) (z ∷ []) (buffered_at a.hub c) (buffered_at b.hub c) a.net b.net a.told b.told) (octets_sent item sent s) (p.moves ok))
-
-  put_line : (sent : answer.Item) → IsSent item sent → kept ≢ Failed → KeepsLine c (sent ∷ []) a b
-  put_line sent s ok = line_put c sent a b (λ there. sym (put_present c) ∙ there) (ap (λ z. z.limit) p.elsewhere.table.config) p.before p.after (λ there. put_moves sent s ok)
-
-  one_more : (i j k l last : ℕ) → j ≡ min (i + 1) last → k ≡ 0 → l ≡ 0 → (i + k) + 1 < last → j + l ≡ (i + k) + 1
-  one_more i j k l last e before after few = grind (arith, nat_tests)
-
-  none : (xs : List (List ℕ)) → xs ≡ [] → length xs ≡ 0
-  none xs e = ap (λ (z : List (List ℕ)). length z) e
-
-  put_front : (sent : answer.Item) → is_gone (entry_at a.hub c).phase ≡ false → KeepsFront c (sent ∷ []) a b
-  put_front sent there =
-      let was : is_present a.hub c ≡ true = is_there (is_gone (entry_at a.hub c).phase) there in
-      record {
-        tells = p.net.net.tells;
-        told = told_before a.told b.told p.offers.notes p.offers.told;
-        count = λ is few. one_more (numbered_at a.hub c) (numbered_at b.hub c) (length (pending_at a.hub c)) (length (pending_at b.hub c)) (2 ^ 64 - 1) p.numbered (none (pending_at a.hub c) p.before) (none (pending_at b.hub c) p.after) few;
-        front = λ is gone few items stands. clash (is_present b.hub c) gone (put_present c ∙ was);
-        taken = λ gone. clash (is_present a.hub c) gone was;
-        drops = λ gone. clash (is_present a.hub c) gone was;
-      }
-
-  -- the front of each connection, by that of c
-  pub put_fronts : (sent : answer.Item) → KeepsFront c (sent ∷ []) a b → KeepsFronts (only c sent) a b
-  put_fronts sent own x below = ⊎_elim
-      (λ (q : x ≡ c). subst (λ (z : ℕ). KeepsFront z (only c sent z) a b) (sym q)
-      (subst (λ (z : List answer.Item). KeepsFront c z a b) (sym (only_here c sent)) own))
-      (λ (ne : x ≢ c). subst (λ (z : List answer.Item). KeepsFront x z a b) (sym (only_other c x sent ne)) (put_front_other x ne))
-      (cases_eq x c)
-
   put_short : kept ≢ Failed → ShortRings a → ShortRings b
   put_short ok short x there =
       let was : ShortWhereHeld x (entry_at a.hub x).ring a.told = short x (sym (put_present x) ∙ there) in
@@ -214,11 +179,29 @@ module _ {c : ℕ} {item : Item} {kept : Kept} {a b : Server} (p : PutsItem c it
       (λ (ne : x ≢ c). put_short_other x ne was)
       (cases_eq x c)
 
-  -- the item is appended
-  pub put_appends : is_gone (entry_at a.hub c).phase ≡ false → kept ≢ Failed → (sent : answer.Item) → IsSent item sent → Appends (only c sent) a b
-  put_appends there ok sent s = record {
-    lines = keeps_only c sent a b put_beside (put_line sent s ok);
-    fronts = put_fronts sent (put_front sent there);
+  none : (xs : List (List ℕ)) → xs ≡ [] → length xs ≡ 0
+  none xs e = ap (λ (z : List (List ℕ)). length z) e
+
+  put_front : (more : List answer.Item) → length more ≡ length popped → is_gone (entry_at a.hub c).phase ≡ false → KeepsFront c more a b
+  put_front more count there =
+      let was : is_present a.hub c ≡ true = is_there (is_gone (entry_at a.hub c).phase) there in
+      record {
+        tells = p.net.net.tells;
+        told = told_before a.told b.told p.offers.notes p.offers.told;
+        count = λ is few. counts_more (numbered_at a.hub c) (numbered_at b.hub c) (length (pending_at a.hub c)) (length (pending_at b.hub c)) (length more) (length popped) (2 ^ 64 - 1) p.numbered (none (pending_at a.hub c) p.before) (none (pending_at b.hub c) p.after) count few;
+        front = λ is gone few items stands. clash (is_present b.hub c) gone (put_present c ∙ was);
+        taken = λ gone. clash (is_present a.hub c) gone was;
+        drops = λ gone. clash (is_present a.hub c) gone was;
+      }
+
+  -- these items are appended for the connection, and nothing for the others
+  pub passed_appends : (f : ℕ → List answer.Item) → ((x : ℕ) → x ≢ c → f x ≡ []) → length (f c) ≡ length popped → is_gone (entry_at a.hub c).phase ≡ false → kept ≢ Failed → KeepsLine c (f c) a b → Appends f a b
+  passed_appends f others count there ok line = record {
+    lines = keeps_of c f a b put_beside others line;
+    fronts = λ x below. ⊎_elim
+        (λ (q : x ≡ c). subst (λ (z : ℕ). KeepsFront z (f z) a b) (sym q) (put_front (f c) count there))
+        (λ (ne : x ≢ c). subst (λ (z : List answer.Item). KeepsFront x z a b) (sym (others x ne)) (put_front_other x ne))
+        (cases_eq x c);
     short = put_short ok;
     waits = put_waits;
   }
@@ -232,3 +215,18 @@ module _ {c : ℕ} {item : Item} {kept : Kept} {a b : Server} (p : PutsItem c it
   -- what is answered
   pub put_tells : is_gone (entry_at a.hub c).phase ≡ false → kept ≢ Failed → TellsPut kept c b.hub
   put_tells there ok = tells_of kept ok (put_present c ∙ is_there (is_gone (entry_at a.hub c).phase) there) p.kept_is
+
+-- an item is put
+module _ {c : ℕ} (item : Item) {kept : Kept} {a b : Server} (p : PutsItem c item kept a b) (sent : answer.Item) (s : IsSent item sent) where
+  put_moves : kept ≢ Failed → Moves c a.hub.config.limit (lines.can_drop sent) (spelled sent ∷ []) (buffered_at a.hub c) (buffered_at b.hub c) a.net b.net a.told b.told
+  put_moves ok =
+      subst (λ (z : Bool). Moves c a.hub.config.limit z (spelled sent ∷ []) (buffered_at a.hub c) (buffered_at b.hub c) a.net b.net a.told b.told) (drops_sent item sent s)
+      (subst (λ (z : List ℕ). Moves c a.hub.config.limit (can_drop item) (z ∷ []) (buffered_at a.hub c) (buffered_at b.hub c) a.net b.net a.told b.told) (octets_sent item sent s) (p.moves ok))
+
+  put_line : kept ≢ Failed → KeepsLine c (sent ∷ []) a b
+  put_line ok = line_put c sent a b (λ there. sym (put_present p c) ∙ there) (ap (λ z. z.limit) p.elsewhere.table.config) p.before p.after (λ there. put_moves ok)
+
+  -- it is appended
+  pub put_appends : is_gone (entry_at a.hub c).phase ≡ false → kept ≢ Failed → Appends (only c sent) a b
+  put_appends there ok = passed_appends p (only c sent) (λ x ne. only_other c x sent ne) (ap (λ (z : List answer.Item). length z) (only_here c sent)) there ok
+      (subst (λ (z : List answer.Item). KeepsLine c z a b) (sym (only_here c sent)) (put_line ok))

@@ -1,6 +1,5 @@
 -- Notes of what became of one connection's octets: they leave each connection as far as it is, and say nothing of others.
-use Rattle.hub_core.proofs.Below.{zero, length, ◌≡◌, ◌≢◌, ℕ, List, [], ◌∷◌, ◌++◌, Option, Some, None, Bool, true, false, cond, suc, nat_eq, ◌||◌, refl, sym, ap, ◌∙◌, subst, arith, ⊎_elim, cases_eq, one_more, nat_tests, list_all, Left, Phase, Head, Open, Leaving, Ending, Gone, NoteValue, gather, total, number_of, took_by, taken_by, dropped_by, writes, taken, dropped_of, is_gone_in, is_gone_by_in, Tell, one_dropped, tell_by, tell_by_all, drops_in, Kept, Clear, Backlog, Dropped, Failed, tell_after, is_of, is_gone_by, is_sending, moved, leaves_open, topics_left, cause_of, is_dropped, drops, short_from, short_after, fell_short, is_silent, ShortWhereHeld, silent_drops, silent_short, AreNoted, is_outgoing, is_link_failure, Progress, progress_by, progress_after, progress_after_all, may_come, may_all_come, unless_gone, clash, and_left, and_right, all_as}
-use Rattle.run_meaning.proofs.NoteLemmas.{none_follow}
+use Rattle.hub_core.proofs.Below.{zero, length, ◌≡◌, ◌≢◌, ℕ, List, [], ◌∷◌, ◌++◌, Option, Some, None, Bool, true, false, cond, suc, nat_eq, ◌||◌, refl, sym, ap, ◌∙◌, subst, arith, ⊎_elim, cases_eq, one_more, nat_tests, list_all, Left, Phase, Head, Open, Leaving, Ending, Gone, NoteValue, gather, total, number_of, took_by, taken_by, dropped_by, writes, taken, dropped_of, is_gone_in, is_gone_by_in, Tell, one_dropped, tell_by, tell_by_all, drops_in, Kept, Clear, Backlog, Dropped, Failed, tell_after, is_of, is_gone_by, is_sending, moved, leaves_open, topics_left, cause_of, is_dropped, drops, short_from, short_after, fell_short, is_silent, ShortWhereHeld, silent_drops, silent_short, AreNoted, is_outgoing, is_link_failure, Progress, progress_by, progress_after, progress_after_all, may_come, may_all_come, unless_gone, clash, and_left, and_right, all_as, none_follow}
 use Rattle.ws_kinds.specs.NoteValue as note
 use Rattle.run_meaning.specs.Notes.{is_gone}
 

@@ -1,5 +1,5 @@
 -- Hubs of which one connection changes, with what the net and the watch tell of the others.
-use Rattle.hub_core.proofs.Below.{◌≡◌, ◌≢◌, ◌≤◌, ◌+◌, ℕ, List, [], ◌++◌, Option, Some, None, Bool, true, false, cond, nat_eq, not, is_some, ◌||◌, length, refl, sym, ap, ◌∙◌, arith, list_all, Phase, Head, Open, Leaving, Ending, Gone, NoteValue, NetState, taken_of, is_dropped, is_silent, HubState, Entry, Server, entry_at, entry_of, has_entry, is_gone, is_present, phase_at, ring_at, cork_at, pending_at, Others, Beside, SameElsewhere, SameLinesElsewhere, present_entry, beside_of, AreNoted, SameDrops, KeepsFront, items_at, Progress, progress_at, due_of, due_at, topics_at, unless_gone, TableState, IsTable, ChangesOne, clash, no_more, ChangesHub, hub_of, same_told, has_topic, is_pair, topics_of, subst, nat_tests, by_cases, ChangesTopics, is_open, same, of_other, IsHub}
+use Rattle.hub_core.proofs.Below.{◌≡◌, ◌≢◌, ◌≤◌, ◌+◌, ℕ, List, [], ◌++◌, Option, Some, None, Bool, true, false, cond, nat_eq, not, is_some, ◌||◌, length, refl, sym, ap, ◌∙◌, arith, list_all, Phase, Head, Open, Leaving, Ending, Gone, NoteValue, NetState, taken_of, is_dropped, is_silent, HubState, Entry, Server, entry_at, entry_of, has_entry, is_gone, is_present, phase_at, ring_at, cork_at, pending_at, Others, Beside, SameElsewhere, SameLinesElsewhere, present_entry, beside_of, AreNoted, SameDrops, KeepsFront, items_at, Progress, progress_at, due_of, due_at, topics_at, unless_gone, TableState, IsTable, ChangesOne, clash, no_more, ChangesHub, hub_of, same_told, has_topic, is_pair, topics_of, subst, nat_tests, by_cases, ChangesTopics, is_open, same, of_other, IsHub, tell_of, AreRisingRows, TellingsState, has_row, may_hold}
 use Rattle.hub_core.proofs.SentLemmas.{silent_dropped, split_notes}
 
 -- ---- phases
@@ -65,12 +65,12 @@ pairs_same a b x same topic = ap (has_topic topic) same
 pub same_or_not : {A : Type 0} (c d : ℕ) → (d ≡ c → A) → (d ≢ c → A) → A
 same_or_not c d yes_ no_ = by_cases (nat_eq d c) (λ e. yes_ (grind (arith, nat_tests))) (λ e. no_ (λ same. clash (nat_eq d c) e (grind (arith, nat_tests))))
 
--- as long as the table and the topics alone are filled
-pub plain_change : {c : ℕ} {a b : TableState} (p q : List (ℕ × List ℕ)) → ChangesOne c a b → ((x : ℕ) → x ≢ c → topics_of q x ≡ topics_of p x) → ChangesHub c (hub_of a p) (hub_of b q)
-plain_change p q change topics = record { table = change; cork = λ x ne. refl; pending = λ x ne. refl; topics = topics; tells = λ x ne. refl }
+-- as long as nothing is corked or pending
+pub plain_change : {c : ℕ} {a b : TableState} (p q : List (ℕ × List ℕ)) (r s : TellingsState) → ChangesOne c a b → ((x : ℕ) → x ≢ c → topics_of q x ≡ topics_of p x) → ((x : ℕ) → x ≢ c → tell_of s.rows x ≡ tell_of r.rows x) → ChangesHub c (hub_of a p r) (hub_of b q s)
+plain_change p q r s change topics tells = record { table = change; cork = λ x ne. refl; pending = λ x ne. refl; topics = topics; tells = tells }
 
-pub table_change : {c : ℕ} {a b : TableState} (p : List (ℕ × List ℕ)) → ChangesOne c a b → ChangesHub c (hub_of a p) (hub_of b p)
-table_change p change = plain_change p p change (λ x ne. refl)
+pub table_change : {c : ℕ} {a b : TableState} (p : List (ℕ × List ℕ)) (r : TellingsState) → ChangesOne c a b → ChangesHub c (hub_of a p r) (hub_of b p r)
+table_change p r change = plain_change p p r r change (λ x ne. refl) (λ x ne. refl)
 
 -- one connection's topics change
 pub topics_here : (c : ℕ) (f : List (List ℕ) → List (List ℕ)) (p q : List (ℕ × List ℕ)) → ChangesTopics c f p q → topics_of q c ≡ f (topics_of p c)
@@ -79,15 +79,35 @@ topics_here c f p q changes = changes c ∙ ap (λ (z : Bool). cond z (f (topics
 pub topics_elsewhere : (c : ℕ) (f : List (List ℕ) → List (List ℕ)) (p q : List (ℕ × List ℕ)) → ChangesTopics c f p q → (x : ℕ) → x ≢ c → topics_of q x ≡ topics_of p x
 topics_elsewhere c f p q changes x ne = changes x ∙ ap (λ (z : Bool). cond z (f (topics_of p x)) (topics_of p x)) (of_other c x ne)
 
--- only a connection that is open has topics, also after a step of one connection
-pub hub_changed : {c : ℕ} {a b : TableState} {p q : List (ℕ × List ℕ)} → IsHub a p → IsTable b → ((x : ℕ) → x ≢ c → entry_of b.entries x ≡ entry_of a.entries x) → ((x : ℕ) → x ≢ c → topics_of q x ≡ topics_of p x)
-    → (is_open (Some (entry_of b.entries c).phase) ≡ false → topics_of q c ≡ []) → IsHub b q
-hub_changed {c} {a} {b} {p} {q} was table entries topics here = record {
+-- what a step of one connection leaves of the topics and rows of all others
+pub record SameRows (c : ℕ) (p q : List (ℕ × List ℕ)) (r s : TellingsState) : Type 0 where
+  pub topics : (x : ℕ) → x ≢ c → topics_of q x ≡ topics_of p x
+  pub rows : (x : ℕ) → x ≢ c → has_row s.rows x ≡ has_row r.rows x
+  pub room : s.room ≡ r.room
+  pub rising : AreRisingRows s.rows
+
+-- what holds of a hub holds after a step of one connection, where it holds of this one
+pub hub_changed : {c : ℕ} {a b : TableState} {p q : List (ℕ × List ℕ)} {r s : TellingsState} → IsHub a p r → IsTable b → b.config ≡ a.config → ((x : ℕ) → x ≢ c → entry_of b.entries x ≡ entry_of a.entries x) → SameRows c p q r s
+    → (is_open (Some (entry_of b.entries c).phase) ≡ false → topics_of q c ≡ []) → (may_hold (entry_of b.entries c).phase ≡ false → has_row s.rows c ≡ false) → ((entry_of b.entries c).ring ≢ [] → has_row s.rows c ≡ true) → IsHub b q s
+hub_changed {c} {a} {b} {p} {q} {r} {s} was table config entries same topics rows held = record {
   table = table;
   topics = λ x off. same_or_not c x
-      (λ e. subst (λ (z : ℕ). topics_of q z ≡ []) (sym e) (here (subst (λ (z : ℕ). is_open (Some (entry_of b.entries z).phase) ≡ false) e off)))
-      (λ ne. topics x ne ∙ was.topics x (ap (λ (z : Entry). is_open (Some z.phase)) (sym (entries x ne)) ∙ off));
+      (λ e. subst (λ (z : ℕ). topics_of q z ≡ []) (sym e) (topics (subst (λ (z : ℕ). is_open (Some (entry_of b.entries z).phase) ≡ false) e off)))
+      (λ ne. same.topics x ne ∙ was.topics x (ap (λ (z : Entry). is_open (Some z.phase)) (sym (entries x ne)) ∙ off));
+  rising = same.rising;
+  room = same.room ∙ was.room ∙ sym (ap (λ z. z.max_conns) config);
+  rows = λ x off. same_or_not c x
+      (λ e. subst (λ (z : ℕ). has_row s.rows z ≡ false) (sym e) (rows (subst (λ (z : ℕ). may_hold (entry_of b.entries z).phase ≡ false) e off)))
+      (λ ne. same.rows x ne ∙ was.rows x (ap (λ (z : Entry). may_hold z.phase) (sym (entries x ne)) ∙ off));
+  held = λ x some. same_or_not c x
+      (λ e. subst (λ (z : ℕ). has_row s.rows z ≡ true) (sym e) (held (subst (λ (z : ℕ). (entry_of b.entries z).ring ≢ []) e some)))
+      (λ ne. same.rows x ne ∙ was.held x (λ none. some (ap (λ (z : Entry). z.ring) (entries x ne) ∙ none)));
 }
+
+-- after one in which no topic and no row changes
+pub entry_changed : {c : ℕ} {a b : TableState} {p : List (ℕ × List ℕ)} {r : TellingsState} → IsHub a p r → IsTable b → b.config ≡ a.config → ((x : ℕ) → x ≢ c → entry_of b.entries x ≡ entry_of a.entries x)
+    → (is_open (Some (entry_of b.entries c).phase) ≡ false → topics_of p c ≡ []) → (may_hold (entry_of b.entries c).phase ≡ false → has_row r.rows c ≡ false) → ((entry_of b.entries c).ring ≢ [] → has_row r.rows c ≡ true) → IsHub b p r
+entry_changed was table config entries topics rows held = hub_changed was table config entries (record { topics = λ x ne. refl; rows = λ x ne. refl; room = refl; rising = was.rising }) topics rows held
 
 module _ {c : ℕ} {a b : HubState} (change : ChangesHub c a b) where
   pub change_phase : (x : ℕ) → x ≢ c → (entry_at b x).phase ≡ (entry_at a x).phase

@@ -1,5 +1,5 @@
 -- Subscriptions that begin and end.
-use Rattle.hub_core.proofs.Below.{◌≡◌, ◌≤◌, ℕ, List, [], ◌∷◌, Option, Some, None, Bool, true, false, cond, not, ◌&&◌, nat_eq, length, refl, sym, ap, ◌∙◌, NoteValue, NetState, Why, server, entry_of, no_entry, is_gone, Progress, progress_at, standings_at, clash, by_cases, falsely, TableState, hub_of, nat_le, ◌⊎◌, inl, inr, MayRefuse, for_reason, for_memory, arith, nat_tests, NotOpen, BadTopic, Forbidden, TooMany, Memory, OrderValue, has_topic, ChangesTopics, is_open, every_topic, frames_of, Standing, first_reason, is_bad_topic, why_at, why_subscribe, why_unsubscribe, Ties, progress_obeys, Obeys, changed, IsHub, ServesOrder}
+use Rattle.hub_core.proofs.Below.{◌≡◌, ◌≤◌, ℕ, List, [], ◌∷◌, Option, Some, None, Bool, true, false, cond, not, ◌&&◌, nat_eq, length, refl, sym, ap, ◌∙◌, NoteValue, NetState, Why, server, entry_of, no_entry, is_gone, Progress, progress_at, standings_at, clash, by_cases, falsely, TableState, hub_of, nat_le, ◌⊎◌, inl, inr, MayRefuse, for_reason, for_memory, arith, nat_tests, NotOpen, BadTopic, Forbidden, TooMany, Memory, OrderValue, has_topic, ChangesTopics, is_open, every_topic, frames_of, Standing, first_reason, is_bad_topic, why_at, why_subscribe, why_unsubscribe, Ties, progress_obeys, Obeys, changed, IsHub, ServesOrder, TellingsState}
 use Rattle.hub_core.proofs.StateLemmas.{plain_change, topics_elsewhere}
 use Rattle.hub_core.proofs.CallLemmas.{Forgets, appends_forgotten}
 use Rattle.hub_core.proofs.OrderLemmas.{open_alone}
@@ -64,34 +64,34 @@ subscribe_unstored own topic why none (inr stored) are_many only_many memory =
 
 -- ---- the topics of one connection change
 
-module _ (a : TableState) (p q : List (ℕ × List ℕ)) (net : NetState) (t : Option (List NoteValue)) (c number : ℕ) (order : OrderValue) (f : List (List ℕ) → List (List ℕ))
-    (whole : IsHub a p) (opened : is_open (standings_at (hub_of a p) c).phase ≡ true) (changes : ChangesTopics c f p q)
+module _ (a : TableState) (p q : List (ℕ × List ℕ)) (r : TellingsState) (net : NetState) (t : Option (List NoteValue)) (c number : ℕ) (order : OrderValue) (f : List (List ℕ) → List (List ℕ))
+    (whole : IsHub a p r) (opened : is_open (standings_at (hub_of a p r) c).phase ≡ true) (changes : ChangesTopics c f p q)
     (obeys : (d : ℕ) (x : Progress) → progress_obeys c d order x ≡ cond (nat_eq c d) (record { phase = x.phase; topics = f x.topics; due = x.due }) x) where
-  forgets : Forgets c (hub_of a p) (hub_of a q)
+  forgets : Forgets c (hub_of a p r) (hub_of a q r)
   forgets = record {
-    entry = sym (ap (λ (z : Bool). cond z no_entry (entry_of a.entries c)) (falsely (is_gone (entry_of a.entries c).phase) (present_open (hub_of a p) c opened)));
+    entry = sym (ap (λ (z : Bool). cond z no_entry (entry_of a.entries c)) (falsely (is_gone (entry_of a.entries c).phase) (present_open (hub_of a p r) c opened)));
     cork = refl;
     pending = refl;
-    change = plain_change p q (record { config = refl; named = refl; entries = λ x ne. refl; due = λ x ne. refl }) (topics_elsewhere c f p q changes);
+    change = plain_change p q r r (record { config = refl; named = refl; entries = λ x ne. refl; due = λ x ne. refl }) (topics_elsewhere c f p q changes) (λ x ne. refl);
   }
 
-  progress_changed : (d : ℕ) → progress_at (hub_of a q) d ≡ progress_obeys c d order (progress_at (hub_of a p) d)
-  progress_changed d = ap (λ (z : List (List ℕ)). record { phase = (progress_at (hub_of a p) d).phase; topics = z; due = (progress_at (hub_of a p) d).due }) (changes d) ∙ one (nat_eq c d) ∙ sym (obeys d (progress_at (hub_of a p) d))
+  progress_changed : (d : ℕ) → progress_at (hub_of a q r) d ≡ progress_obeys c d order (progress_at (hub_of a p r) d)
+  progress_changed d = ap (λ (z : List (List ℕ)). record { phase = (progress_at (hub_of a p r) d).phase; topics = z; due = (progress_at (hub_of a p r) d).due }) (changes d) ∙ one (nat_eq c d) ∙ sym (obeys d (progress_at (hub_of a p r) d))
     where
       x : Progress
-      x = progress_at (hub_of a p) d
+      x = progress_at (hub_of a p r) d
 
       one : (own : Bool) → record { phase = x.phase; topics = cond own (f x.topics) x.topics; due = x.due } ≡ cond own (record { phase = x.phase; topics = f x.topics; due = x.due }) x
       one true = refl
       one false = refl
 
-  obeyed : Obeys c order (server (hub_of a p) net t) (server (hub_of a q) net t)
+  obeyed : Obeys c order (server (hub_of a p r) net t) (server (hub_of a q r) net t)
   obeyed = record { progress = progress_changed; tells = λ d. refl; counts = λ d there. (there, refl); net = refl; told = refl; appends = appends_forgotten forgets net t }
 
-  pub topics_served : frames_of order ≡ [] → why_at a.config every_topic c (standings_at (hub_of a p)) order ≡ None → Ties (server (hub_of a p) net t) → ServesOrder c number order (server (hub_of a p) net t) (server (hub_of a q) net t)
+  pub topics_served : frames_of order ≡ [] → why_at a.config every_topic c (standings_at (hub_of a p r)) order ≡ None → Ties (server (hub_of a p r) net t) → ServesOrder c number order (server (hub_of a p r) net t) (server (hub_of a q r) net t)
   topics_served no_frame none ties = record {
     ties = ties;
-    serves = changed a.config every_topic c number (server (hub_of a p) net t) (server (hub_of a q) net t) order no_frame none (open_alone a p net t whole) obeyed;
+    serves = changed a.config every_topic c number (server (hub_of a p r) net t) (server (hub_of a q r) net t) order no_frame none (open_alone a p r net t whole) obeyed;
     named = refl;
     table = whole.table;
   }

@@ -1,5 +1,5 @@
 -- Connections that are finished, one after another, as a turn ends.
-use Rattle.hub_core.proofs.Below.{length, inl, ◌≡◌, ◌≢◌, ◌<◌, ◌≤◌, ◌+◌, ◌-◌, ◌^◌, ℕ, List, [], ◌∷◌, ◌++◌, Option, Some, Bool, true, false, cond, not, ◌||◌, nat_eq, nat_lt, refl, sym, ap, ◌∙◌, subst, append-nil, arith, nat_tests, Finished, Phase, Ending, NoteValue, IsNoted, NetState, Item, has_number, joined, HubState, Entry, TellingValue, Server, server, is_gone, has_entry, is_present, entry_at, ring_at, cork_at, pending_at, StandsFor, nothing, present_entry, FailsAfter, TakesAll, items_at, Advances, Appends, by_cases, clash, or_false, or_assoc, same, fails_then, fails_same, advances_then, advances_same, appends_before_nothing, appends_same, IsTable, table_of, tell_of, tell_at, held_in, may_leave_by, nothing_told, at_turn, is_turn, list_any, Goes, Rise, finishes, FinishesOne, FinishesIfEmpty, EndsTurn, or_true, no}
+use Rattle.hub_core.proofs.Below.{length, inl, ◌≡◌, ◌≢◌, ◌<◌, ◌≤◌, ◌+◌, ◌-◌, ◌^◌, ℕ, List, [], ◌∷◌, ◌++◌, Option, Some, Bool, true, false, not, ◌||◌, nat_eq, nat_lt, refl, sym, ap, ◌∙◌, subst, append-nil, arith, nat_tests, Finished, Phase, Ending, NoteValue, IsNoted, NetState, Item, has_number, joined, HubState, Entry, TellingValue, Server, server, is_gone, has_entry, is_present, entry_at, ring_at, cork_at, pending_at, StandsFor, nothing, present_entry, FailsAfter, TakesAll, items_at, Advances, Appends, by_cases, clash, or_false, or_assoc, same, fails_then, fails_same, advances_then, advances_same, appends_before_nothing, appends_same, IsTable, table_of, tell_of, tell_at, held_in, may_leave_by, at_turn, is_turn, list_any, Goes, Rise, finishes, FinishesOne, FinishesIfEmpty, EndsTurn, or_true, no}
 use Rattle.ws_kinds.specs.NoteValue as note
 use Rattle.hub_core.proofs.NoteLemmas.{NotesOne, advances_noted, fails_noted, appends_noted}
 use Rattle.hub_core.proofs.StateLemmas.{same_or_not}
@@ -51,10 +51,10 @@ stays_away d mid new x few away = by_cases (is_present new.hub d)
 counted : (i j last : ℕ) → (i + 0 < last → j ≡ i + 0) → i < last → j < last
 counted i j last h few = let g : i + 0 < last = omega arith in let k = h g in omega arith
 
-fewer : (c : ℕ) (old mid : Server) → Appends nothing old mid → c ≤ old.hub.named → is_present mid.hub c ≡ true → items_at old.hub c < 2 ^ 64 - 1 → items_at mid.hub c < 2 ^ 64 - 1
+pub fewer : (c : ℕ) (old mid : Server) → Appends nothing old mid → c ≤ old.hub.named → is_present mid.hub c ≡ true → items_at old.hub c < 2 ^ 64 - 1 → items_at mid.hub c < 2 ^ 64 - 1
 fewer c old mid x few there e = counted (items_at old.hub c) (items_at mid.hub c) 18446744073709551615 ((x.fronts c few).count there) e
 
-stood : (c : ℕ) (old mid : Server) → Appends nothing old mid → c ≤ old.hub.named → is_present mid.hub c ≡ true → (items : List Item) → StandsFor c old items → StandsFor c mid items
+pub stood : (c : ℕ) (old mid : Server) → Appends nothing old mid → c ≤ old.hub.named → is_present mid.hub c ≡ true → (items : List Item) → StandsFor c old items → StandsFor c mid items
 stood c old mid x few there items s = subst (λ (z : List Item). StandsFor c mid z) (append-nil items) ((x.lines.lines c few).stands there items s)
 
 finishes_more : (ns : List ℕ) (c : ℕ) → finishes (ns ++ c ∷ []) ≡ finishes ns ++ note.gone c Finished ∷ []
@@ -127,10 +127,10 @@ finishing_skip after c old mid f above none holds = record {
       (λ z. holds (subst (λ (w : ℕ). ring_at mid.hub w ≡ []) z empty));
 }
 
-at_any : {A : Type 0} (after c : ℕ) → (c ≤ after → A) → (after < c → A) → A
+pub at_any : {A : Type 0} (after c : ℕ) → (c ≤ after → A) → (after < c → A) → A
 at_any after c low high = by_cases (nat_lt after c) (λ e. high (grind (arith, nat_tests))) (λ e. low (grind (arith, nat_tests)))
 
-empty_or_not : {A : Type 0} (xs : List ℕ) → (xs ≡ [] → A) → (xs ≢ [] → A) → A
+pub empty_or_not : {A : Type 0} (xs : List ℕ) → (xs ≡ [] → A) → (xs ≢ [] → A) → A
 empty_or_not [] empty some = empty refl
 empty_or_not (x ∷ xs) empty some = some (λ e. cc)
 
@@ -192,15 +192,6 @@ module _ {after : ℕ} {old : Server} {h : HubState} {net : NetState} {t : Optio
   pub appends_finished : Appends nothing old (server (with_tellings h tellings) net t')
   appends_finished = appends_before_nothing nothing old (server h net t) (server (with_tellings h tellings) net t') f.appends (appends_turn h tellings net t t' told)
 
--- as long as nothing is held back and nothing is to be told
-pub none_told : (h : HubState) → ((c : ℕ) → ring_at h c ≡ []) → ((c : ℕ) → tell_at h c ≡ nothing_told) → (c : ℕ) → tell_at h c ≡ at_turn (held_in h c) (tell_at h c)
-none_told h rings none c =
-    none c ∙ ap (λ (z : ℕ). at_turn z nothing_told) (sym (held (is_present h c) (ring_at h c) (rings c))) ∙ ap (at_turn (held_in h c)) (sym (none c))
-  where
-    held : (there : Bool) (ring : List ℕ) → ring ≡ [] → cond there (length ring) 0 ≡ 0
-    held true ring e = ap length e
-    held false ring e = refl
-
 -- there is no connection 0
 pub none_at_zero : (h : HubState) (net : NetState) (t : Option (List NoteValue)) → IsTable (table_of h) → Finishing 0 (server h net t) (server h net t)
 none_at_zero h net t whole = finishing_starts (server h net t) (λ c few ending.
@@ -223,7 +214,7 @@ finishes_one {c} {a} {b} g ending empty = record {
       (λ ne. (ap (λ (z : Entry). z.phase) (sym (g.leaves.change.table.entries d ne)) ∙ e, ap (λ (z : Entry). z.ring) (g.leaves.change.table.entries d ne)));
 }
 
-no_octets : (xs : List ℕ) → length xs ≡ 0 → xs ≡ []
+pub no_octets : (xs : List ℕ) → length xs ≡ 0 → xs ≡ []
 no_octets [] e = refl
 no_octets (x ∷ xs) e = absurd (omega arith)
 

@@ -1,5 +1,5 @@
 -- What a step of one connection changes of a hub.
-use Rattle.std.specs.Prelude.{◌≡◌, ◌≢◌, ◌<◌, ◌+◌, ◌-◌, ◌^◌, min, ℕ, List, [], ◌∷◌, Some, Bool, true, false, if◌then◌else◌}
+use Rattle.std.specs.Prelude.{◌≡◌, ◌≢◌, ◌<◌, ◌≤◌, ◌+◌, ◌-◌, ◌^◌, min, ℕ, List, [], ◌∷◌, Some, Bool, true, false, length, if◌then◌else◌}
 use Rattle.ws_kinds.specs.declared.note.Left.{Left}
 use Rattle.ws_kinds.specs.declared.note.Left.TheVariants.{LinkFailed}
 use Rattle.ws_kinds.specs.declared.note.Phase.TheVariants.{Ending, Gone}
@@ -10,7 +10,7 @@ use Rattle.wire_meaning.specs.Answer.{Item}
 use Rattle.run_meaning.specs.Notes.{is_left}
 use Rattle.run_meaning.specs.Lines.{is_open, topics_left}
 use Rattle.run_meaning.specs.Tell.{Tell, nothing_told, one_dropped}
-use Rattle.hub_lines.specs.State.{HubState, Server, entry_at, numbered_at, phase_at, ring_at, cork_at, pending_at, is_gone, is_present}
+use Rattle.hub_lines.specs.State.{HubState, Server, entry_at, most_held_in, numbered_at, phase_at, ring_at, cork_at, pending_at, is_gone, is_present}
 use Rattle.hub_lines.specs.Told.{ShortWhereHeld}
 use Rattle.hub_lines.specs.Moves.{Moves, Others, buffered_at}
 use Rattle.hub_lines.specs.Lines.{StandsFor}
@@ -42,19 +42,20 @@ abbrev pub tell_after : Kept → Tell → Tell
 tell_after (Dropped held) tell = one_dropped tell
 tell_after _ tell = tell
 
--- An item is put for a connection for which nothing is pending: what stood for its line stands, with the item behind it. Where
--- a write of it failed, its link took a front of that line, and it is still to be made gone.
-pub record PutsItem (conn : ℕ) (item : Puttable) (kept : Kept) (old new : Server) : Type 0 where
-  pub moves : kept ≢ Failed → Moves conn old.hub.config.limit (can_drop item) (octets_of item ∷ []) (buffered_at old.hub conn) (buffered_at new.hub conn) old.net new.net old.told new.told
+-- A step of one connection for which nothing is pending puts these frames, and may drop one where `may_drop` is true: what stood
+-- for its line stands, with the frames behind it. Where a write of it failed, its link took a front of that line, and it is still
+-- to be made gone.
+pub record Passes (conn : ℕ) (may_drop : Bool) (popped : List (List ℕ)) (kept : Kept) (old new : Server) : Type 0 where
+  pub moves : kept ≢ Failed → Moves conn old.hub.config.limit may_drop popped (buffered_at old.hub conn) (buffered_at new.hub conn) old.net new.net old.told new.told
   pub others : Others conn old.net new.net old.told new.told
   pub offers : OffersNoted kept conn old.net new.net old.told new.told
-  pub front : kept ≡ Failed → FailsWithin conn (octets_of item ∷ []) (buffered_at old.hub conn) old.net new.net old.told new.told
+  pub front : kept ≡ Failed → FailsWithin conn popped (buffered_at old.hub conn) old.net new.net old.told new.told
   pub short : kept ≢ Failed → ShortWhereHeld conn (ring_at old.hub conn) old.told → ShortWhereHeld conn (ring_at new.hub conn) new.told
   pub kept_is : TellsRing old.hub.config.limit kept (ring_at new.hub conn)
   pub failed : TellsFailure kept conn old.net new.net
   pub net : KeepsNet conn old.net new.net
-  pub numbered : numbered_at new.hub conn ≡ min (numbered_at old.hub conn + 1) (2 ^ 64 - 1)
-  pub waits : ring_at new.hub conn ≢ [] → new.net.writable conn ≡ false
+  pub numbered : numbered_at new.hub conn ≡ min (numbered_at old.hub conn + length popped) (2 ^ 64 - 1)
+  pub waits : (ring_at old.hub conn ≢ [] → old.net.writable conn ≡ false) → ring_at new.hub conn ≢ [] → new.net.writable conn ≡ false
   pub phase : (entry_at new.hub conn).phase ≡ (entry_at old.hub conn).phase
   pub quiet : (entry_at new.hub conn).quiet ≡ (entry_at old.hub conn).quiet
   pub due : due_at new.hub conn ≡ due_at old.hub conn
@@ -64,6 +65,15 @@ pub record PutsItem (conn : ℕ) (item : Puttable) (kept : Kept) (old new : Serv
   pub after : pending_at new.hub conn ≡ []
   pub elsewhere : ChangesHub conn old.hub new.hub
   pub table : IsTable (table_of new.hub)
+
+-- an item is put
+abbrev pub PutsItem : ℕ → Puttable → Kept → Server → Server → Type 0
+PutsItem conn item kept old new = Passes conn (can_drop item) (octets_of item ∷ []) kept old new
+
+-- what is held is offered; then octets are held only while the link takes nothing
+pub record OffersRing (conn : ℕ) (kept : Kept) (old new : Server) : Type 0 where
+  pub passes : Passes conn false [] kept old new
+  pub waits : kept ≢ Failed → ring_at new.hub conn ≢ [] → new.net.writable conn ≡ false
 
 -- A connection is gone: its link is shut, and this is noted. With Open its topics end and its Closed event is due; nothing is
 -- to be told of it any more.
@@ -102,5 +112,7 @@ pub record Ends (conn code : ℕ) (reason : List ℕ) (answer : Bool) (old new :
   pub cork : cork_at new conn ≡ cork_at old conn
   pub pending : pending_at new conn ≡ pending_at old conn
   pub tells : tell_at new conn ≡ tell_at old conn
+  -- from Open, a control frame fits behind what is held: 10 octets of a header and 125 of a payload at most
+  pub room : answer ≡ true → length (ring_at new conn) + 135 ≤ most_held_in new.config (entry_at new conn).phase
   pub change : ChangesHub conn old new
   pub table : IsTable (table_of new)

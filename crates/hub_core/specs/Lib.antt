@@ -1,4 +1,5 @@
 pub mod State
+pub mod Rows
 pub mod Answers
 pub mod At
 pub mod Changes
@@ -6,4 +7,5 @@ pub mod Puts
 pub mod Sends
 pub mod Publishing
 pub mod Serving
+pub mod Told
 pub mod All

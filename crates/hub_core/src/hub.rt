@@ -1,10 +1,10 @@
 //! The hub, and what comes for one connection.
 
-ghost use Rattle.std.specs.Prelude.{◌≡◌, ◌<◌, [], true, length, nat_eq, ℕ, List, Option, IfOk, IfSome, IfNone};
+ghost use Rattle.std.specs.Prelude.{◌≡◌, ◌<◌, [], true, length, nat_eq, List, Option, IfOk, IfSome, IfNone};
 ghost use Rattle.std.specs.Option.{option_map};
 ghost use Rattle.ws_kinds.specs.NoteValue.{NoteValue};
 ghost use Rattle.link_trait.specs.NetState.{NetState};
-ghost use Rattle.hub_lines.specs.State.{server, phase_at, ring_at};
+ghost use Rattle.hub_lines.specs.State.{server, phase_at};
 ghost use Rattle.hub_lines.specs.Lines.{held_at, held_octets};
 ghost use Rattle.hub_lines.specs.Calls.{Ties, Settled, nothing};
 ghost use Rattle.ws_kinds.specs.NoteValue as note;
@@ -17,6 +17,7 @@ ghost use Rattle.hub_notes.specs.Answers.{Arrives};
 
 use hub_notes::Arrival;
 use hub_table::{Connections, Parting};
+use hub_tellings::Tellings;
 use link_trait::{Net, Outside};
 use std::alloc::{AllocError, Global};
 use std::marker::Model;
@@ -31,6 +32,7 @@ use ws_kinds::{Config, Conn, Note, Phase, Watch};
 pub struct Hub {
     pub(crate) table: Connections,
     pub(crate) topics: Topics,
+    pub(crate) tellings: Tellings,
 }
 
 impl Model for Hub {
@@ -39,9 +41,9 @@ impl Model for Hub {
 
     ghost Value = { HubState };
 
-    ghost view = { λ hub. hub_of hub.table hub.topics };
+    ghost view = { λ hub. hub_of hub.table hub.topics hub.tellings };
 
-    ghost invariant = { λ hub. IsHub hub.table hub.topics };
+    ghost invariant = { λ hub. IsHub hub.table hub.topics hub.tellings };
 }
 
 impl Hub {
@@ -52,11 +54,13 @@ impl Hub {
         ensures entries { IfOk result (λ hub. hub.entries ≡ []) }
         ensures pairs { IfOk result (λ hub. hub.pairs ≡ []) }
         ensures partings { IfOk result (λ hub. hub.partings ≡ []) }
+        ensures tellings { IfOk result (λ hub. hub.tellings ≡ []) }
         ensures settled { IfOk result (λ hub. Settled hub) }
     {
         Ok(Hub {
             table: Connections::new(alloc, config)?,
             topics: Topics::new(alloc),
+            tellings: Tellings::with_room(alloc, config.max_conns() as usize)?,
         })
     }
 
@@ -127,13 +131,5 @@ impl Hub {
         ensures { result ≡ nat_eq (length self.now.entries) self.now.config.max_conns }
     {
         self.table.is_full()
-    }
-
-    /// Says that nothing is in a ring, as long as each link takes all that it is offered. This is a law, and calls for nothing to be
-    /// done.
-    pub fn no_rings(&self)
-        ensures { (conn : ℕ) → ring_at self.now conn ≡ [] }
-    {
-        self.table.no_rings();
     }
 }

@@ -3,15 +3,19 @@
 
 mod events;
 mod hub;
+mod offers;
 mod orders;
 mod publishing;
 mod puts;
+mod rows;
 mod subscriptions;
+mod told;
 mod turns;
 
 pub use hub::Hub;
 pub use hub_notes::Arrival;
 pub use hub_table::Parting;
+pub use told::Telling;
 
 #[cfg(test)]
 mod tests;

@@ -1,9 +1,9 @@
 //! What a hub puts for one connection, and how a connection comes to be gone.
 
-ghost use Rattle.std.specs.Prelude.{◌≡◌, ◌≢◌, ◌≤◌, [], true, length};
+ghost use Rattle.std.specs.Prelude.{◌≡◌, ◌≢◌, ◌+◌, ◌≤◌, [], true, length};
 ghost use Rattle.ws_kinds.specs.declared.note.Phase.TheVariants.{Head};
 ghost use Rattle.wire_meaning.specs.Answer.{close_item};
-ghost use Rattle.hub_lines.specs.State.{entry_at, is_present, phase_at};
+ghost use Rattle.hub_lines.specs.State.{entry_at, is_present, most_held_in, phase_at, ring_at};
 ghost use Rattle.hub_lines.specs.Calls.{Ties, only};
 ghost use Rattle.hub_notes.specs.Answers.{has_frames};
 ghost use Rattle.hub_core.specs.At.{at};
@@ -12,6 +12,7 @@ ghost use Rattle.hub_core.specs.Sends.{Sends};
 ghost use Rattle.hub_core.specs.Puts.{MayPut, Puts};
 
 use crate::Hub;
+use crate::rows::keep_row;
 use link_trait::{Net, Outside};
 use socket_core::{Item, Kept};
 use wire_meaning::{Opcode, close_body, opcode_number};
@@ -46,11 +47,13 @@ impl Hub {
         requires { MayPut conn.0 item (at N.Net W.Watch self.old out.old) }
         ensures { PutsItem conn.0 item.entry result (at N.Net W.Watch self.old out.old) (at N.Net W.Watch self.new out.new) }
     {
-        self.table.no_rings();
-        self.table.put_frame(out, conn, item)
+        let kept = self.table.put_frame(out, conn, item);
+        keep_row(&mut self.tellings, conn, kept);
+        kept
     }
 
-    /// Puts a close frame with this code, which may be sent, or an empty one for 1005 (RFC 6455, section 5.5.1).
+    /// Puts a close frame with this code, which may be sent, or an empty one for 1005 (RFC 6455, section 5.5.1). It fits behind what
+    /// is held.
     pub(crate) fn put_close<N: Net, W: Watch>(
         &mut self,
         out: &mut Outside<N, W>,
@@ -59,6 +62,7 @@ impl Hub {
     )
         requires present { is_present self.old conn.0 ≡ true }
         requires past_head { (entry_at self.old conn.0).phase ≢ Head }
+        requires room { length (ring_at self.old conn.0) + 135 ≤ most_held_in self.old.config (entry_at self.old conn.0).phase }
         requires ties { Ties (at N.Net W.Watch self.old out.old) }
         ensures { Sends conn.0 [] (only conn.0 (close_item code)) (at N.Net W.Watch self.old out.old) (at N.Net W.Watch self.new out.new) }
     {
@@ -98,5 +102,6 @@ impl Hub {
         out.watch.note(&Note::Gone { conn, left });
         self.table.leave(conn);
         self.topics.drop_conn(conn);
+        self.tellings.forget(conn);
     }
 }

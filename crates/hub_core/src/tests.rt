@@ -71,6 +71,8 @@ fn each_call_notes_what_came(rt: HostRuntime) -> Result<(), Fail> {
         (SIX, Call::Admit),
         (ONE, Call::Ping),
         (ONE, Call::Pong),
+        (ONE, Call::Writable),
+        (TWO, Call::Writable),
         (ONE, Call::Orders(&orders)),
         (ONE, Call::Close(1001, b"bye")),
         (FOUR, Call::Failed),
@@ -106,6 +108,7 @@ fn each_call_notes_what_came(rt: HostRuntime) -> Result<(), Fail> {
             conn: ONE,
             body: b"ho",
         },
+        gone(TWO, Left::Finished),
         took(FOUR, 4),
         unserved(ONE, 1, Why::Absent),
         Note::PeerClose {
@@ -123,7 +126,6 @@ fn each_call_notes_what_came(rt: HostRuntime) -> Result<(), Fail> {
         gone(SIX, Left::LinkFailed),
         Note::Tick,
         gone(ONE, Left::Finished),
-        gone(TWO, Left::Finished),
         gone(FOUR, Left::Finished),
         Note::Turn,
     ];
@@ -140,6 +142,7 @@ fn each_call_notes_what_came(rt: HostRuntime) -> Result<(), Fail> {
     }
     assert_eq!(rt; hub.phase(THREE), Some(Phase::Head));
     assert_eq!(rt; hub.held(ONE), 0);
+    assert!(rt; hub.next_told(Conn(0)).is_none());
     Ok(())
 }
 

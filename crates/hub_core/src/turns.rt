@@ -4,7 +4,7 @@ ghost use Rattle.std.specs.Prelude.{◌≡◌, [], ◌∷◌};
 ghost use Rattle.ws_kinds.specs.declared.note.Phase.TheVariants.{Ending};
 ghost use Rattle.ws_kinds.specs.NoteValue as note;
 ghost use Rattle.hub_lines.specs.State.{server, entry_at};
-ghost use Rattle.hub_lines.specs.Calls.{Ties, Settled, nothing};
+ghost use Rattle.hub_lines.specs.Calls.{Ties, SameLinesElsewhere, Settled, nothing};
 ghost use Rattle.hub_notes.specs.Calls.{Appends};
 ghost use Rattle.hub_core.specs.At.{at};
 ghost use Rattle.hub_notes.specs.Table.{IsTable, table_of};
@@ -46,16 +46,17 @@ impl Hub {
             self.finish(out, conn);
             after = conn;
         }
-        self.table.no_rings();
+        self.settle();
         out.watch.note(&Note::Turn);
     }
 
     /// A connection in phase Ending is gone, as finished, where nothing is held for it.
-    fn finish<N: Net, W: Watch>(&mut self, out: &mut Outside<N, W>, conn: Conn)
+    pub(crate) fn finish<N: Net, W: Watch>(&mut self, out: &mut Outside<N, W>, conn: Conn)
         requires ending { (entry_at self.old conn.0).phase ≡ Ending }
         requires ties { Ties (at N.Net W.Watch self.old out.old) }
         ensures ties { Ties (at N.Net W.Watch self.new out.new) }
         ensures finishes { FinishesIfEmpty conn.0 (at N.Net W.Watch self.old out.old) (at N.Net W.Watch self.new out.new) }
+        ensures elsewhere { SameLinesElsewhere conn.0 (at N.Net W.Watch self.old out.old) (at N.Net W.Watch self.new out.new) }
         ensures named { self.new.named ≡ self.old.named }
         ensures table { IsTable (table_of self.new) }
     {

@@ -1,10 +1,10 @@
 -- The words that proofs of this crate and of those above use, under one name.
 pub use Rattle.std.specs.Option.{option_map}
 pub use Rattle.ws_kinds.specs.All.{ConfigValue, NoteValue, IsNoted}
-pub use Rattle.wire_meaning.specs.All.{Item, reply, spelled, whole}
+pub use Rattle.wire_meaning.specs.All.{Item, reply, spelled}
 pub use Rattle.link_trait.specs.All.{Shuts, Writes, NetState}
 pub use Rattle.link_trait.specs.declared.net.NetWrote.{NetWrote}
-pub use Rattle.hub_lines.specs.Calls.{receives, Beside, IsBounded, IsNewTo, Keeps, KeepsLine, SameButPending, SameElsewhere, SameLinesElsewhere, Settled, ShortRings, Starts, Ties, is_sender, nothing, only, part_at, part_below, published, put_octets, served, then_also}
+pub use Rattle.hub_lines.specs.Calls.{Beside, IsBounded, IsNewTo, Keeps, KeepsLine, SameButPending, SameElsewhere, SameLinesElsewhere, Settled, ShortRings, Starts, Ties, is_sender, nothing, only, part_at, part_below, published, put_octets, receives, served, then_also}
 pub use Rattle.hub_lines.specs.Corks.{HolderIsPresent, IsFreeFor, IsTidy}
 pub use Rattle.hub_lines.specs.Fronts.{FailsWithin, TakesAll, TakesFront}
 pub use Rattle.hub_lines.specs.Indices.{AreBelow, AreStored, Pointed, frame_at, frames_named, indices_of, pending_by, waiting_by}

@@ -1,5 +1,6 @@
 pub mod Progress
 pub mod Tells
+pub mod NextTold
 pub mod Quiet
 pub mod NetAfter
 pub mod Fronts

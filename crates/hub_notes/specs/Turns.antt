@@ -1,5 +1,6 @@
 -- The end of a turn.
-use Rattle.std.specs.Prelude.{◌≡◌, ◌≢◌, ◌<◌, ◌-◌, ◌^◌, ⊤, ℕ, List, [], ◌∷◌, ◌++◌, Some, true, false, map}
+use Rattle.std.specs.Prelude.{◌≡◌, ◌≢◌, ◌<◌, ◌-◌, ◌^◌, ⊤, ℕ, List, [], ◌∷◌, ◌++◌, Some, true, false, map, nat_eq}
+use Rattle.std.specs.List.{list_all}
 use Rattle.ws_kinds.specs.declared.note.Phase.TheVariants.{Ending}
 use Rattle.ws_kinds.specs.declared.note.Left.TheVariants.{Finished}
 use Rattle.ws_kinds.specs.NoteValue as note
@@ -8,12 +9,13 @@ use Rattle.wire_meaning.specs.Answer.{Item}
 use Rattle.run_meaning.specs.Counts.{has_number}
 use Rattle.hub_lines.specs.State.{Server, phase_at, entry_at, ring_at, is_present}
 use Rattle.hub_lines.specs.Lines.{StandsFor, held_at, held_octets}
-use Rattle.hub_lines.specs.Calls.{nothing}
+use Rattle.hub_lines.specs.Calls.{Ties, SameLinesElsewhere, nothing}
 use Rattle.hub_notes.specs.NetAfter.{FailsAfter}
 use Rattle.hub_notes.specs.Tells.{EndsTelling}
 use Rattle.hub_notes.specs.Calls.{Advances, Proceeds, Appends}
 use Rattle.hub_lines.specs.Fronts.{TakesAll}
-use Rattle.hub_notes.specs.Fronts.{items_at}
+use Rattle.hub_notes.specs.Fronts.{Waits, RingsWait, items_at}
+use Rattle.hub_notes.specs.Table.{IsTable, table_of}
 
 -- each number is greater than those before it
 abbrev pub Rise : ℕ → List ℕ → Type 0
@@ -51,3 +53,21 @@ pub record EndsTurn (old new : Server) : Type 0 where
   pub ending : (conn : ℕ) → phase_at new.hub conn ≡ Some Ending → held_octets (held_at new.hub conn) ≢ []
   -- the link of one that is finished took all its items
   pub whole : (conn : ℕ) → has_number conn finished ≡ true → items_at old.hub conn < 2 ^ 64 - 1 → (items : List Item) → StandsFor conn old items → TakesAll conn items new.net new.told
+
+-- What is held back for a connection is offered to its link. Then it may be gone, as finished, once it is ending and its link took
+-- all its items.
+pub record Offers (conn : ℕ) (old new : Server) : Type 0 where
+  pub ties : Ties new
+  -- nobody, or this connection
+  pub finished : List ℕ
+  pub own : list_all (nat_eq conn) finished ≡ true
+  pub rising : Rise 0 finished
+  pub proceeds : Proceeds [] (finishes finished) old new
+  pub appends : Appends nothing old new
+  -- the link of one that is finished took all its items
+  pub whole : (other : ℕ) → has_number other finished ≡ true → items_at old.hub other < 2 ^ 64 - 1 → (items : List Item) → StandsFor other old items → TakesAll other items new.net new.told
+  -- also of this connection, octets are held back only while its link takes nothing
+  pub waits : ((other : ℕ) → other ≢ conn → Waits other old) → RingsWait new
+  pub elsewhere : SameLinesElsewhere conn old new
+  pub named : new.hub.named ≡ old.hub.named
+  pub table : IsTable (table_of new.hub)

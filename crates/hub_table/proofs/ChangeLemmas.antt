@@ -1,6 +1,5 @@
 -- What each change of one connection makes of the table.
-use Rattle.socket_core.specs.Phases.{entered as goes_on}
-use Rattle.hub_table.proofs.Below.{◌≤◌, ◌+◌, most_held, most_held_in, ◌≡◌, ◌≢◌, ◌<◌, ℕ, List, [], ◌∷◌, ◌++◌, Option, Some, None, Bool, true, false, if◌then◌else◌, not, length, refl, sym, ap, ◌∙◌, subst, length-append, arith, is_some, option_map, Phase, Head, Open, Leaving, Ending, Gone, ConfigValue, is_open, Entry, PartingValue, no_entry, new_entry, has_entry, entry_of, is_gone, present_entry, due_of, can_enter, Connection, Parting, parting_value, AreRising, ChangesOne, TakesDue, due_when_gone, no_connection, connection_of, replaced, without, entries_of, put_before, partings_of, cause, with_socket, entered, parted, told, IsOwn, IsConnection, AreKept, table_state}
+use Rattle.hub_table.proofs.Below.{goes_on, ◌≤◌, ◌+◌, most_held, most_held_in, ◌≡◌, ◌≢◌, ◌<◌, ℕ, List, [], ◌∷◌, ◌++◌, Option, Some, None, Bool, true, false, if◌then◌else◌, not, length, refl, sym, ap, ◌∙◌, subst, length-append, arith, is_some, option_map, Phase, Head, Open, Leaving, Ending, Gone, ConfigValue, is_open, Entry, PartingValue, no_entry, new_entry, has_entry, entry_of, is_gone, present_entry, due_of, can_enter, Connection, Parting, parting_value, AreRising, ChangesOne, TakesDue, due_when_gone, no_connection, connection_of, replaced, without, entries_of, put_before, partings_of, cause, with_socket, entered, parted, told, IsOwn, IsConnection, AreKept, table_state, max, joined, TableState, length_one}
 use Rattle.hub_table.proofs.ConnectionLemmas.{Becomes, becomes_replaced, becomes_without, entry_becomes, due_becomes, changes_one, each_of, each_added, rising_last, entries_added, length_entries, entry_is, due_is, own_number, there_replaced}
 use Rattle.hub_table.proofs.IndexLemmas.{IsFirstDue}
 
@@ -73,6 +72,26 @@ pub left_none : (ring left : List ℕ) → ring ≡ [] → length left ≤ lengt
 left_none ring [] none bound = refl
 left_none ring (x ∷ left) none bound = absurd (let e = ap length none in omega arith)
 
+-- for each connection so many may be held at least
+least_in : (g : ConfigValue) (p : Phase) → g.limit + g.max_message + 256 ≤ most_held_in g p
+least_in g Head = omega arith
+least_in g Open = omega arith
+least_in g Leaving = omega arith
+least_in g Ending = omega arith
+least_in g Gone = omega arith
+
+-- what is held stays within its bound where an item is put: one that may be dropped over the limit has few octets, and each other fits
+pub held_after : (g : ConfigValue) (p : Phase) (l : ℕ) (q : Bool) (octets ring left : List ℕ) → l ≡ g.limit → length octets ≤ g.max_message + 256 → length ring ≤ most_held_in g p → (q ≡ false → length ring + length octets ≤ most_held_in g p)
+    → length left ≤ length ring + length (joined (octets ∷ [])) → (q ≡ true → length left ≤ max (length ring) (l + length (joined (octets ∷ [])))) → length left ≤ most_held_in g p
+held_after g p l true octets ring left same few was fits bound limited = let a = limited refl in let b = least_in g p in let one = length_one octets in omega arith
+held_after g p l false octets ring left same few was fits bound limited = let a = fits refl in let one = length_one octets in omega arith
+
+-- the same condition of what contracts see of a table, and of its connections
+pub fits_inside : (g : ConfigValue) (n : ℕ) (xs : List Connection) (t : TableState) (c o : ℕ) → table_state g n xs ≡ t → length (entry_of t.entries c).ring + o ≤ most_held_in t.config (entry_of t.entries c).phase
+    → length (connection_of xs c).socket.ring + o ≤ most_held_in g (connection_of xs c).socket.phase
+fits_inside g n xs t c o view fits = subst (λ (z : Entry). length z.ring + o ≤ most_held_in g z.phase) (entry_is xs c)
+    (subst (λ (z : TableState). length (entry_of z.entries c).ring + o ≤ most_held_in z.config (entry_of z.entries c).phase) (sym view) fits)
+
 entered_bound : (g : ConfigValue) (q p : Phase) (ring : List ℕ) (b : Bool) → b ≡ is_gone p → can_enter q p ≡ true → length ring ≤ most_held_in g q → length (if b then [] else ring) ≤ most_held_in g p
 entered_bound g q p ring true e step bound = omega arith
 entered_bound g q p ring false e step bound = let more = most_grows g q p step (sym e) in omega arith
@@ -103,7 +122,6 @@ becomes_entered {g} {n} {xs} {ys} c p k there step head due e =
       bound = entered_bound g (connection_of xs c).socket.phase p (connection_of xs c).socket.ring (is_gone p) refl step was.bound;
       gone = entered_gone (connection_of xs c).socket.ring (is_gone p);
       unused = λ none. entered_unused (connection_of xs c).socket.ring (is_gone p) (was.unused none);
-      ring = entered_unused (connection_of xs c).socket.ring (is_gone p) was.ring;
       quiet = was.quiet;
     }) e
 
@@ -122,14 +140,13 @@ becomes_parted {g} {n} {xs} {ys} c p m k there step head own e =
       bound = entered_bound g (connection_of xs c).socket.phase p (connection_of xs c).socket.ring (is_gone p) refl step was.bound;
       gone = entered_gone (connection_of xs c).socket.ring (is_gone p);
       unused = λ none. entered_unused (connection_of xs c).socket.ring (is_gone p) (was.unused none);
-      ring = entered_unused (connection_of xs c).socket.ring (is_gone p) was.ring;
       quiet = was.quiet;
     }) e
 
 pub becomes_put : {g : ConfigValue} {n : ℕ} {xs ys : List Connection} (c : ℕ) (s : Entry) → AreKept g n xs → has_entry (entries_of xs) c ≡ true
     → s.conn ≡ (connection_of xs c).socket.conn → s.config ≡ (connection_of xs c).socket.config → s.phase ≡ (connection_of xs c).socket.phase → (s.phase ≡ Head → s.numbered ≡ 0)
-    → length s.ring ≤ most_held_in g s.phase → (is_gone s.phase ≡ true → s.ring ≡ []) → (s.numbered ≡ 0 → s.ring ≡ []) → s.ring ≡ [] → s.quiet ≡ (connection_of xs c).socket.quiet → ys ≡ replaced xs c (with_socket (connection_of xs c) s) → Becomes g n c xs ys (with_socket (connection_of xs c) s)
-becomes_put {g} {n} {xs} {ys} c s k there conn config phase head bound gone unused ring quiet e =
+    → length s.ring ≤ most_held_in g s.phase → (is_gone s.phase ≡ true → s.ring ≡ []) → (s.numbered ≡ 0 → s.ring ≡ []) → s.quiet ≡ (connection_of xs c).socket.quiet → ys ≡ replaced xs c (with_socket (connection_of xs c) s) → Becomes g n c xs ys (with_socket (connection_of xs c) s)
+becomes_put {g} {n} {xs} {ys} c s k there conn config phase head bound gone unused quiet e =
     let was = each_of g n xs c k.each there in
     becomes_by g n c xs ys (with_socket (connection_of xs c) s) k there (conn ∙ own_number xs c there)
     (record {
@@ -142,7 +159,6 @@ becomes_put {g} {n} {xs} {ys} c s k there conn config phase head bound gone unus
       bound = bound;
       gone = gone;
       unused = unused;
-      ring = ring;
       quiet = quiet ∙ was.quiet;
     }) e
 
@@ -151,7 +167,7 @@ pub becomes_told : {g : ConfigValue} {n : ℕ} {xs ys : List Connection} (c : �
 becomes_told {g} {n} {xs} {ys} c k there here e =
     let was = each_of g n xs c k.each there in
     becomes_by g n c xs ys (told (connection_of xs c)) k there (own_number xs c there)
-    (record { first = was.first; among = was.among; config = was.config; head = was.head; own = tt {0}; due = λ h. absurd (let z : false ≡ true = sym here ∙ h in cc); bound = was.bound; gone = was.gone; unused = was.unused; ring = was.ring; quiet = was.quiet }) e
+    (record { first = was.first; among = was.among; config = was.config; head = was.head; own = tt {0}; due = λ h. absurd (let z : false ≡ true = sym here ∙ h in cc); bound = was.bound; gone = was.gone; unused = was.unused; quiet = was.quiet }) e
 
 pub becomes_forgotten : {g : ConfigValue} {n : ℕ} {xs ys : List Connection} (c : ℕ) → AreKept g n xs → ys ≡ without xs c → Becomes g n c xs ys no_connection
 becomes_forgotten {g} {n} {xs} {ys} c k e = subst (λ w. Becomes g n c xs w no_connection) (sym e) (becomes_without g n c xs k)
@@ -190,7 +206,7 @@ becomes_added {g} {n} {xs} {ys} c k new room e =
     let size = length_entries xs in
     subst (AreKept g c) (sym e) (record {
       rising = subst (λ z. AreRising z) (sym (entries_added xs y)) (rising_last xs y.socket k.rising (above_all g n c xs k new));
-      each = each_added g n c xs y (omega arith) (record { first = omega arith; among = omega arith; config = refl; head = λ h. refl; own = tt {0}; due = λ h. absurd (let z : false ≡ true = h in cc); bound = omega arith; gone = λ _. refl; unused = λ _. refl; ring = refl; quiet = refl }) k.each;
+      each = each_added g n c xs y (omega arith) (record { first = omega arith; among = omega arith; config = refl; head = λ h. refl; own = tt {0}; due = λ h. absurd (let z : false ≡ true = h in cc); bound = omega arith; gone = λ _. refl; unused = λ _. refl; quiet = refl }) k.each;
       few = let a = length-append xs (y ∷ []) in omega arith;
     })
 

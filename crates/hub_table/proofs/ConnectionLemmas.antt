@@ -112,7 +112,7 @@ pub each_added : (g : ConfigValue) (n m : ℕ) (xs : List Connection) (y : Conne
 each_added g n m [] y l own all = (own, tt {0})
 each_added g n m (x ∷ xs) y l own all =
     let a = all.0 in let k = a.among in
-    (record { first = a.first; among = omega arith; config = a.config; head = a.head; own = a.own; due = a.due; bound = a.bound; gone = a.gone; unused = a.unused; ring = a.ring; quiet = a.quiet }, each_added g n m xs y l own all.1)
+    (record { first = a.first; among = omega arith; config = a.config; head = a.head; own = a.own; due = a.due; bound = a.bound; gone = a.gone; unused = a.unused; quiet = a.quiet }, each_added g n m xs y l own all.1)
 
 pub each_of : (g : ConfigValue) (n : ℕ) (xs : List Connection) (c : ℕ) → AreConnections g n xs → has_entry (entries_of xs) c ≡ true → IsConnection g n (connection_of xs c)
 each_of g n [] c all t = absurd (let z : false ≡ true = t in cc)

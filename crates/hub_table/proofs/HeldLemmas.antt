@@ -37,9 +37,3 @@ pub no_tick : (g : ConfigValue) (n : ℕ) (xs : List Connection) → AreKept g n
 no_tick g n xs k c = by_cases (has_entry (entries_of xs) c)
     (λ there. let own = each_of g n xs c k.each there in ap (λ (z : Entry). z.quiet) (entry_is xs c) ∙ own.quiet)
     (λ away. ap (λ (z : Entry). z.quiet) (none_of (entries_of xs) c away))
-
--- nothing is held back for any connection
-pub no_ring : (g : ConfigValue) (n : ℕ) (xs : List Connection) → AreKept g n xs → (c : ℕ) → (entry_of (entries_of xs) c).ring ≡ []
-no_ring g n xs k c = by_cases (has_entry (entries_of xs) c)
-    (λ there. let own = each_of g n xs c k.each there in ap (λ (z : Entry). z.ring) (entry_is xs c) ∙ own.ring)
-    (λ away. ap (λ (z : Entry). z.ring) (none_of (entries_of xs) c away))

@@ -110,9 +110,7 @@ pub record IsConnection (numbers : ConfigValue) (greatest : ℕ) (connection : C
   pub bound : length connection.socket.ring ≤ most_held_in numbers connection.socket.phase
   pub gone : is_gone connection.socket.phase ≡ true → connection.socket.ring ≡ []
   pub unused : connection.socket.numbered ≡ 0 → connection.socket.ring ≡ []
-  -- nothing is held back yet, since each link takes all that it is offered
-  pub ring : connection.socket.ring ≡ []
-  -- and no ticks are counted yet
+  -- no ticks are counted yet
   pub quiet : connection.socket.quiet ≡ record { ticks = 0; leaving = 0 }
 
 -- this holds of each of them

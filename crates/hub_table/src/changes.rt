@@ -3,7 +3,7 @@
 ghost use Rattle.std.specs.Prelude.{◌≡◌, ◌≢◌, ◌≤◌, ◌+◌, ◌&&◌, nat_lt, [], ◌∷◌, true, false, length};
 ghost use Rattle.slab.specs.Slab.{ContainsKey, with_value};
 ghost use Rattle.socket_core.specs.Items.{IsPuttable, octets_of, can_drop};
-ghost use Rattle.socket_core.specs.Puts.{PassesOctets, is_drop};
+ghost use Rattle.socket_core.specs.Puts.{CountsRinged, OffersOnce, PassesOctets, is_drop};
 ghost use Rattle.hub_lines.specs.State.{most_held};
 ghost use Rattle.socket_core.specs.Phases.{can_enter};
 ghost use Rattle.hub_table.specs.Parting.{parting_value};
@@ -82,7 +82,9 @@ pub fn put<N: Net, W: Watch>(
     ensures passes { PassesOctets (stored_at connections.old key).socket.conn (stored_at connections.old key).socket.config.limit (can_drop item.entry) (octets_of item.entry ∷ [])
         result (stored_at connections.old key).socket (stored_at connections.new key).socket
         (N.state out.old.net) (N.state out.new.net) (W.told out.old.watch) (W.told out.new.watch) }
-    ensures empty { (stored_at connections.old key).socket.ring ≡ [] → (stored_at connections.new key).socket.ring ≡ [] }
+    ensures once { (stored_at connections.old key).socket.ring ≡ [] → OffersOnce result (stored_at connections.old key).socket.conn (octets_of item.entry) (stored_at connections.new key).socket.ring
+        (N.state out.old.net) (N.state out.new.net) (W.told out.old.watch) (W.told out.new.watch) }
+    ensures tally { CountsRinged (stored_at connections.old key).socket.ring (stored_at connections.new key).socket.ring out.old.tally out.new.tally }
     ensures dropped { is_drop result ≡
         (can_drop item.entry && nat_lt (stored_at connections.old key).socket.config.limit (length (stored_at connections.old key).socket.ring)) }
     ensures slab { connections.new ≡ with_value connections.old key (with_socket (stored_at connections.old key) (stored_at connections.new key).socket) }

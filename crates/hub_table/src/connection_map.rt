@@ -6,7 +6,7 @@ ghost use Rattle.std.specs.Ordering.{nat_cmp};
 ghost use Rattle.std.specs.BTreeMap.{get};
 ghost use Rattle.hub_lines.specs.State.{has_entry, most_held};
 ghost use Rattle.socket_core.specs.Items.{IsPuttable, octets_of, can_drop};
-ghost use Rattle.socket_core.specs.Puts.{PassesOctets, is_drop};
+ghost use Rattle.socket_core.specs.Puts.{CountsRinged, OffersOnce, PassesOctets, is_drop};
 ghost use Rattle.socket_core.specs.Phases.{can_enter};
 ghost use Rattle.hub_table.specs.NumberSet.{first_of, first_above};
 ghost use Rattle.hub_table.specs.Connection.{connection_of, connection_in, entries_of, replaced, without, entered, parted, told, with_socket, is_due, ends, is_ending, numbers_where};
@@ -174,7 +174,9 @@ impl ConnectionMap {
         ensures passes { PassesOctets conn.0 (connection_of self.old.all conn.0).socket.config.limit (can_drop item.entry) (octets_of item.entry ∷ [])
             result (connection_of self.old.all conn.0).socket (connection_of self.new.all conn.0).socket
             (N.state out.old.net) (N.state out.new.net) (W.told out.old.watch) (W.told out.new.watch) }
-        ensures empty { (connection_of self.old.all conn.0).socket.ring ≡ [] → (connection_of self.new.all conn.0).socket.ring ≡ [] }
+        ensures once { (connection_of self.old.all conn.0).socket.ring ≡ [] → OffersOnce result conn.0 (octets_of item.entry) (connection_of self.new.all conn.0).socket.ring
+            (N.state out.old.net) (N.state out.new.net) (W.told out.old.watch) (W.told out.new.watch) }
+        ensures tally { CountsRinged (connection_of self.old.all conn.0).socket.ring (connection_of self.new.all conn.0).socket.ring out.old.tally out.new.tally }
         ensures dropped { is_drop result ≡
             (can_drop item.entry && nat_lt (connection_of self.old.all conn.0).socket.config.limit (length (connection_of self.old.all conn.0).socket.ring)) }
         ensures all { self.new.all ≡ replaced self.old.all conn.0 (with_socket (connection_of self.old.all conn.0) (connection_of self.new.all conn.0).socket) }

@@ -7,7 +7,7 @@ ghost use Rattle.hub_lines.specs.State.{entry_of, has_entry, is_gone, most_held_
 ghost use Rattle.hub_notes.specs.Progress.{due_of};
 ghost use Rattle.socket_core.specs.Items.{octets_of, can_drop, IsPuttable};
 ghost use Rattle.socket_core.specs.Phases.{can_enter};
-ghost use Rattle.socket_core.specs.Puts.{PassesOctets, is_drop};
+ghost use Rattle.socket_core.specs.Puts.{CountsRinged, OffersOnce, PassesOctets, is_drop};
 ghost use Rattle.hub_table.specs.Parting.{parting_value};
 ghost use Rattle.hub_notes.specs.Table.{IsTable, ChangesOne, due_when_gone, IsNextEnding, TakesDue};
 
@@ -109,9 +109,9 @@ impl Connections {
         Ok(())
     }
 
-    /// Puts an item for a connection that is past Head, as its socket does: it gets the connection's next index, counted from
-    /// 0, and is dropped, held back or offered to the link; what the link took, and a drop, is noted. An item that may not be dropped
-    /// fits behind what is held back.
+    /// Puts an item for a connection that is past Head and not gone, as its socket does: it gets the connection's next index, counted
+    /// from 0, and is dropped, held back or offered to the link; what the link took, and a drop, is noted. An item that may not be
+    /// dropped fits behind what is held back.
     ///
     /// Where the write fails, the answer is `Failed`, and nothing is noted; the net counted the fault, and the connection
     /// stays in its phase.
@@ -121,7 +121,7 @@ impl Connections {
         conn: Conn,
         item: Item<'_>,
     ) -> Kept
-        requires there { has_entry self.old.entries conn.0 ≡ true }
+        requires present { is_gone (entry_of self.old.entries conn.0).phase ≡ false }
         requires live { (N.state out.old.net).live conn.0 ≡ true }
         requires item { IsPuttable self.old.config (entry_of self.old.entries conn.0).numbered item }
         requires past_head { (entry_of self.old.entries conn.0).phase ≢ Phase.Head }
@@ -129,7 +129,9 @@ impl Connections {
         ensures passes { PassesOctets conn.0 self.old.config.limit (can_drop item.entry) (octets_of item.entry ∷ []) result (entry_of self.old.entries conn.0) (entry_of self.new.entries conn.0)
             (N.state out.old.net) (N.state out.new.net) (W.told out.old.watch) (W.told out.new.watch) }
         ensures dropped { is_drop result ≡ (can_drop item.entry && nat_lt self.old.config.limit (length (entry_of self.old.entries conn.0).ring)) }
-        ensures ring { (entry_of self.new.entries conn.0).ring ≡ [] }
+        ensures once { (entry_of self.old.entries conn.0).ring ≡ [] → OffersOnce result conn.0 (octets_of item.entry) (entry_of self.new.entries conn.0).ring
+            (N.state out.old.net) (N.state out.new.net) (W.told out.old.watch) (W.told out.new.watch) }
+        ensures tally { CountsRinged (entry_of self.old.entries conn.0).ring (entry_of self.new.entries conn.0).ring out.old.tally out.new.tally }
         ensures there { has_entry self.new.entries conn.0 ≡ true }
         ensures due { due_of self.new.partings conn.0 ≡ due_of self.old.partings conn.0 }
         ensures table { IsTable self.new }
@@ -219,10 +221,12 @@ impl Connections {
         }
     }
 
-    /// Says that no octets are held for any connection, as long as each link takes all that it is offered. This is a law, and calls
-    /// for nothing to be done.
-    pub fn no_rings(&self)
-        ensures { (conn : ℕ) → (entry_of self.now.entries conn).ring ≡ [] }
+    /// Says how many octets are held for a connection at most, by its phase, and that none are held for one that is gone, nor where
+    /// nothing was put. This is a law, and calls for nothing to be done.
+    pub fn rings_are_bounded(&self)
+        ensures bound { (conn : ℕ) → length (entry_of self.now.entries conn).ring ≤ most_held_in self.now.config (entry_of self.now.entries conn).phase }
+        ensures unused { (conn : ℕ) → (entry_of self.now.entries conn).numbered ≡ 0 → (entry_of self.now.entries conn).ring ≡ [] }
+        ensures gone { (conn : ℕ) → is_gone (entry_of self.now.entries conn).phase ≡ true → (entry_of self.now.entries conn).ring ≡ [] }
     {
         let _ = &self.table;
     }

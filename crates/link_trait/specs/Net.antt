@@ -206,11 +206,6 @@ abbrev pub NetTakesWithin : NetWrote → ℕ → Type 0
 NetTakesWithin (wrote.Took n) len = n ≤ len
 NetTakesWithin wrote.Failed len = ⊤
 
--- as long as no write is short
-abbrev pub TakesAll : ℕ → NetWrote → Type 0
-TakesAll len (wrote.Took n) = n ≡ len
-TakesAll len wrote.Failed = ⊤
-
 abbrev pub NetTakes : NetWrote → List ℕ → List ℕ → List ℕ → Type 0
 NetTakes (wrote.Took n) octets old new = new ≡ old ++ take n octets
 NetTakes wrote.Failed octets old new = new ≡ old

@@ -62,7 +62,7 @@ pub enum Listening {
 pub trait Net {
     ghost use Rattle.std.specs.Prelude.{◌≡◌, ◌<◌, true, length};
     ghost use Rattle.link_trait.specs.NetState.{NetState};
-    ghost use Rattle.link_trait.specs.Net.{Listens, Nexts, Reads, Writes, TakesAll, Shuts};
+    ghost use Rattle.link_trait.specs.Net.{Listens, Nexts, Reads, Writes, Shuts};
 
     // What it holds.
     ghost state: { Self → NetState };
@@ -81,12 +81,12 @@ pub trait Net {
         requires some { 0 < length room.old }
         ensures { Reads conn.0 room.new result (state self.old) (state self.new) };
 
-    /// Writes octets to a live connection, which takes all of them. There is at least one.
+    /// Writes octets to a live connection, of which there is at least one. Its link takes from none to all of them, off the front.
+    /// Where it takes fewer than all, `Writable` is told once it takes octets again.
     fn write(&mut self, conn: Conn, octets: &[u8]) -> NetWrote
         requires live { (state self.old).live conn.0 ≡ true }
         requires some { 0 < length octets.now }
-        ensures writes { Writes conn.0 octets.now result (state self.old) (state self.new) }
-        ensures all { TakesAll (length octets.now) result };
+        ensures { Writes conn.0 octets.now result (state self.old) (state self.new) };
 
     /// Ends a live connection.
     fn shut(&mut self, conn: Conn)

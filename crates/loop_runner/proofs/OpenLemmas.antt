@@ -1,5 +1,5 @@
 -- Notes by which nobody is opened.
-use Rattle.loop_runner.proofs.Below.{◌≡◌, ℕ, List, [], ◌∷◌, ◌++◌, Some, Bool, true, false, ◌||◌, refl, sym, ap, ◌∙◌, append-nil, list_all, NoteValue, OrderValue, AreNoted, is_outgoing, is_opened, is_opened_in, every_topic, notes_of, none_follow, list_any-append, Server, Proceeds, standings_at, EndsTurn, finishes, clash, is_of_orders, told_is, orders_notes, outgoing_of_orders, Grows, ServesOrders}
+use Rattle.loop_runner.proofs.Below.{◌≡◌, ℕ, List, [], ◌∷◌, ◌++◌, Some, Bool, true, false, ◌||◌, refl, sym, ap, ◌∙◌, append-nil, list_all, NoteValue, OrderValue, AreNoted, is_outgoing, is_opened, is_opened_in, every_topic, notes_of, none_follow, list_any-append, Server, Proceeds, standings_at, EndsTurn, finishes, clash, is_of_orders, told_is, orders_notes, outgoing_of_orders, Grows, ServesOrders, Offers}
 use Rattle.ws_kinds.specs.NoteValue as note
 
 -- who is opened by the later notes was opened by the earlier ones
@@ -24,7 +24,7 @@ orders_unopened : (c : ℕ) (n : NoteValue) → is_of_orders n ≡ true → is_o
 orders_unopened c (note.opened d route param) h = clash false refl h
 orders_unopened c _ h = refl
 
-finishes_unopened : (c : ℕ) (cs : List ℕ) → is_opened_in c (finishes cs ++ note.turn ∷ []) ≡ false
+finishes_unopened : (c : ℕ) (cs : List ℕ) → is_opened_in c (finishes cs) ≡ false
 finishes_unopened c [] = refl
 finishes_unopened c (k ∷ cs) = finishes_unopened c cs
 
@@ -53,8 +53,14 @@ opens_served conn orders a d x =
     (λ c. none_follow is_of_orders (is_opened c) (orders_unopened c) (notes_of x.steps)
     (orders_notes is_of_orders a.hub.config every_topic conn outgoing_of_orders (λ i y. refl) orders 0 x.steps (standings_at a.hub) x.performs))
 
+-- what was sent, and then notes by which nobody is opened
+opens_last : (last : List NoteValue) (a d : Server) → Proceeds [] last a d → ((c : ℕ) → is_opened_in c last ≡ false) → OpensNobody a d
+opens_last last a d x none = opens_none (x.sending ++ last) a d x.advances.told
+    (λ c. list_any-append (is_opened c) x.sending last ∙ ap (λ (z : Bool). z || is_opened_in c last) (outgoing_unopened c x.sending x.outgoing) ∙ none c)
+
+pub opens_offered : (conn : ℕ) (a d : Server) → Offers conn a d → OpensNobody a d
+opens_offered conn a d x = opens_last (finishes x.finished) a d x.proceeds (λ c. finishes_unopened c x.finished)
+
 pub opens_ended : (a d : Server) → EndsTurn a d → OpensNobody a d
-opens_ended a d x =
-    let last = finishes x.finished ++ note.turn ∷ [] in
-    opens_none (x.proceeds.sending ++ last) a d x.proceeds.advances.told
-    (λ c. list_any-append (is_opened c) x.proceeds.sending last ∙ ap (λ (z : Bool). z || is_opened_in c last) (outgoing_unopened c x.proceeds.sending x.proceeds.outgoing) ∙ finishes_unopened c x.finished)
+opens_ended a d x = opens_last (finishes x.finished ++ note.turn ∷ []) a d x.proceeds
+    (λ c. list_any-append (is_opened c) (finishes x.finished) (note.turn ∷ []) ∙ ap (λ (z : Bool). z || false) (finishes_unopened c x.finished))

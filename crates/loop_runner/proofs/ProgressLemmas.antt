@@ -1,5 +1,5 @@
 -- What steps make of a connection that was accepted before them.
-use Rattle.loop_runner.proofs.Below.{◌≡◌, ◌≤◌, ◌+◌, inl, inr, ℕ, List, [], ◌∷◌, Option, Some, None, Bool, true, false, cond, not, is_some, nat_eq, ◌&&◌, ◌||◌, refl, sym, ap, ◌∙◌, subst, arith, list_any, Phase, Head, Open, Leaving, Ending, Gone, NoteValue, OrderValue, send, subscribe, unsubscribe, publish, close, is_of, is_acceptance, is_gone_in, moved, closing, is_open, leaves_open, cause_of, topics_left, with_topic, without_topic, unless_gone, is_reading, Step, by_note, by_order, notes_of, of_notes, notes_of-notes, HubState, entry_at, is_present, has_entry, phase_at, Progress, due_at, progress_at, progress_by, progress_after, progress_after_all, progress_obeys, progress_by_steps, by_cases, clash, or_left, or_right, and_true, stays_live, StaysOrLeaves, weight_of, is_kept_at, open_shown, steps_of_notes, own, other, reading_at}
+use Rattle.loop_runner.proofs.Below.{◌≡◌, ◌≤◌, ◌+◌, inl, inr, ℕ, List, [], ◌∷◌, Option, Some, None, Bool, true, false, cond, not, is_some, nat_eq, ◌&&◌, ◌||◌, refl, sym, ap, ◌∙◌, subst, arith, list_any, Phase, Head, Open, Leaving, Ending, Gone, NoteValue, OrderValue, send, subscribe, unsubscribe, publish, close, is_of, is_acceptance, is_gone_in, moved, closing, is_open, leaves_open, cause_of, topics_left, with_topic, without_topic, unless_gone, is_reading, Step, by_note, by_order, notes_of, of_notes, notes_of-notes, HubState, entry_at, is_present, has_entry, phase_at, Progress, due_at, progress_at, progress_by, progress_after, progress_after_all, progress_obeys, progress_by_steps, by_cases, clash, or_left, or_right, and_true, stays_live, StaysOrLeaves, weight_of, is_kept_at, open_shown, steps_of_notes, own, other, reading_at, Entry, entry_of}
 use Rattle.ws_kinds.specs.NoteValue as note
 use Rattle.run_meaning.specs.Notes.{is_gone}
 use Rattle.hub_lines.specs.State as hub
@@ -293,6 +293,19 @@ shown_by Gone = refl
 
 pub present_at : (h : HubState) (c : ℕ) → is_present h c ≡ is_some (progress_at h c).phase
 present_at h c = there_by (entry_at h c).phase
+
+-- whether a connection is there, by the phase of an entry
+pub there_at : (h : HubState) (c : ℕ) → is_present h c ≡ is_some (unless_gone (phase_at h c))
+there_at h c = in_entries h.entries
+  where
+    one : (first : Entry) (rest : List Entry) (own : Bool) → not (hub.is_gone (entry_of rest c).phase) ≡ is_some (unless_gone (cond (has_entry rest c) (Some (entry_of rest c).phase) None))
+        → not (hub.is_gone (cond own first (entry_of rest c)).phase) ≡ is_some (unless_gone (cond (own || has_entry rest c) (Some (cond own first (entry_of rest c)).phase) None))
+    one first rest true e = there_by first.phase
+    one first rest false e = e
+
+    in_entries : (es : List Entry) → not (hub.is_gone (entry_of es c).phase) ≡ is_some (unless_gone (cond (has_entry es c) (Some (entry_of es c).phase) None))
+    in_entries [] = refl
+    in_entries (first ∷ rest) = one first rest (nat_eq first.conn c) (in_entries rest)
 
 pub kept_at : (h : HubState) (c : ℕ) → is_kept_at h c ≡ kept_by (progress_at h c).phase (due_at h c)
 kept_at h c = ap (λ (z : Bool). z || is_some (due_at h c)) (present_at h c)

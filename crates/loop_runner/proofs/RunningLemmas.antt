@@ -1,5 +1,6 @@
 -- What holds within a turn, step after step.
-use Rattle.loop_runner.proofs.Below.{◌≡◌, ◌≤◌, inl, inr, ⊎_elim, ℕ, List, [], ◌∷◌, length, Option, Some, None, true, false, not, is_some, refl, sym, ap, ◌∙◌, subst, arith, cases_eq, Phase, Head, Open, Leaving, Ending, Gone, NoteValue, NetState, Frees, is_reading, Reader, HubState, Entry, Server, server, entry_of, has_entry, is_gone, phase_at, ring_at, due_at, Settled, by_cases, clash, or_right, IsTable, table_of, Intake, Intakes, max_of, intake_at, is_admitted, ChangesIntake, SameIntakes, IsTaken, IsAsked, Ready, Every, But, StaysOrLeaves, StepsWith, Takes, Running, is_kept_at}
+use Rattle.loop_runner.proofs.Below.{◌≡◌, ◌≤◌, inl, inr, ⊎_elim, ℕ, List, [], ◌∷◌, length, Option, Some, None, true, false, not, is_some, refl, sym, ap, ◌∙◌, subst, arith, cases_eq, Phase, Head, Open, Leaving, Ending, Gone, NoteValue, NetState, Frees, is_reading, Reader, HubState, Entry, Server, server, entry_of, has_entry, is_gone, phase_at, due_at, Settled, by_cases, clash, or_right, IsTable, table_of, Intake, Intakes, max_of, intake_at, is_admitted, ChangesIntake, SameIntakes, IsTaken, IsAsked, Ready, Every, But, StaysOrLeaves, StepsWith, Takes, Running, is_kept_at, OffersIfThere}
+use Rattle.loop_runner.proofs.StepLemmas.{steps_freed, waits_freed}
 use Rattle.frame_reader.specs.Reader as reader
 use Rattle.loop_runner.proofs.ProgressLemmas.{read_kept}
 use Rattle.loop_runner.proofs.ViewLemmas.{Written, none_some, same_some}
@@ -130,20 +131,23 @@ running_written conn old new was now a b before t max w at =
     t.asked
     (λ intake is. subst (λ (z : Intake). IsTaken (phase_at b.hub conn) z.reader) (same_some now intake (sym w.here ∙ is)) t.taken)
 
--- octets can be sent again, and nothing is in a ring
-pub running_freed : (conn : ℕ) (intakes : Intakes) (h : HubState) (a b : NetState) (t : Option (List NoteValue)) → Running Every intakes (server h a t) → Frees conn a b → ((c : ℕ) → ring_at h c ≡ []) → Running Every intakes (server h b t)
-running_freed conn intakes h a b t x n none = record {
-  max = x.max;
-  kept = x.kept;
-  table = x.table;
-  ties = λ c there. n.live c ∙ x.ties c there;
-  named = subst (λ (z : ℕ). h.named ≤ z) (sym n.named) x.named;
-  short = x.short;
-  waits = λ c there some. absurd (some (none c));
-  readers = x.readers;
-  asked = λ c p r. n.due c ∙ x.asked c p r;
-  taken = x.taken;
-}
+-- octets can be sent again, and then what is held is offered, where the connection is there
+pub running_freed : (conn : ℕ) (intakes : Intakes) (h : HubState) (a n : NetState) (t : Option (List NoteValue)) (b : Server) → Running Every intakes (server h a t) → Frees conn a n → OffersIfThere conn (server h n t) b
+    → Running Every intakes b
+running_freed conn intakes h a n t b x free offers =
+    let s = steps_freed conn (server h n t) b offers in
+    record {
+      max = ap (λ z. z.max_message) s.config ∙ x.max;
+      kept = λ c k. x.kept c (s.kept c k);
+      table = s.table x.table;
+      ties = s.ties (λ c there. free.live c ∙ x.ties c there);
+      named = subst (λ (z : ℕ). z ≤ b.net.named) (sym s.named) (subst (λ (z : ℕ). h.named ≤ z) (sym (s.net_named ∙ free.named)) x.named);
+      short = s.short x.short;
+      waits = waits_freed conn (server h n t) b offers (λ c ne there holds. free.writable_elsewhere c ne ∙ x.waits c there holds);
+      readers = x.readers;
+      asked = λ c p r. s.due c p r ∙ free.due c ∙ x.asked c p (s.reading c r);
+      taken = λ c p intake at. taken_as (phase_at h c) (phase_at b.hub c) intake.reader (s.phase c p) (x.taken c p intake at);
+    }
 
 -- ---- how a turn begins and ends
 

@@ -1,5 +1,5 @@
 -- What the calls of a hub keep.
-use Rattle.loop_runner.proofs.Below.{◌≡◌, ◌≤◌, ◌+◌, ◌-◌, ◌^◌, ◌⊎◌, inl, inr, ⊎_elim, ℕ, suc, List, [], ◌∷◌, ◌++◌, Option, Bool, true, false, cond, not, ◌&&◌, ◌||◌, refl, sym, ap, ◌∙◌, subst, arith, append_assoc, list_any, list_all, ConfigValue, NoteValue, OrderValue, IsNoted, AreNoted, Item, NetState, LinkFailed, is_of, is_acceptance, is_turn, is_gone_in, number_of, Standing, is_reading, AreThere, Step, notes_of, of_notes, standings_after, is_outgoing, is_link_failure, Answers, Performs, serves, refuses, notes_of-append, notes_of-notes, list_any-append, is_silent, HubState, Server, server, is_present, phase_at, ring_at, Ties, ShortRings, nothing, short_silent, progress_at, progress_by_steps, RingsWait, NetAfter, RoseBy, Advances, Proceeds, Appends, Makes, IsTable, table_of, EndsTurn, finishes, clash, or_left, or_right, and_left, and_right, Sends, Notes, GivesOctets, LosesLink, Every, But, Grows, RisesBeyond, Onward, StepsWith, Steps, ServesOrders, number_then, rose_same, told_one, steps_of_notes, not_true}
+use Rattle.loop_runner.proofs.Below.{◌≡◌, ◌≤◌, ◌+◌, ◌-◌, ◌^◌, ◌⊎◌, inl, inr, ⊎_elim, ℕ, suc, List, [], ◌∷◌, ◌++◌, Option, Bool, true, false, cond, not, ◌&&◌, ◌||◌, refl, sym, ap, ◌∙◌, subst, arith, append_assoc, list_any, list_all, ConfigValue, NoteValue, OrderValue, IsNoted, AreNoted, Item, NetState, LinkFailed, is_of, is_acceptance, is_turn, is_gone_in, number_of, Standing, is_reading, AreThere, Step, notes_of, of_notes, standings_after, is_outgoing, is_link_failure, Answers, Performs, serves, refuses, notes_of-append, notes_of-notes, list_any-append, is_silent, HubState, Server, server, is_present, phase_at, ring_at, Ties, ShortRings, nothing, short_silent, progress_at, progress_by_steps, RingsWait, NetAfter, RoseBy, Advances, Proceeds, Appends, Makes, IsTable, table_of, EndsTurn, finishes, clash, or_left, or_right, and_left, and_right, Sends, Notes, GivesOctets, LosesLink, Every, But, Grows, RisesBeyond, Onward, StepsWith, Steps, ServesOrders, number_then, rose_same, told_one, steps_of_notes, not_true, ◌≢◌, cases_eq, by_cases, Waits, OffersIfThere, Offers}
 use Rattle.ws_kinds.specs.NoteValue as note
 use Rattle.loop_runner.proofs.NotedLemmas.{links_both, links_noted, links_paid, links_still, number_none, turns_both, turns_noted, turns_same}
 use Rattle.loop_runner.proofs.GrowLemmas.{grows_net, grows_noted, grows_same, grows_then}
@@ -208,6 +208,14 @@ finishes_start : (conns : List ℕ) → list_any starts (finishes conns) ≡ fal
 finishes_start [] = refl
 finishes_start (c ∷ conns) = finishes_start conns
 
+-- an offering
+steps_offered : (conn : ℕ) (a b : Server) → Offers conn a b → Steps Every a b
+steps_offered conn a b x =
+    let last = finishes x.finished in
+    let none : list_any starts (x.proceeds.sending ++ last) ≡ false = call_begins [] last a b x.proceeds (finishes_start x.finished) in
+    steps_of Every (x.proceeds.sending ++ last) nothing a b x.proceeds.advances (onward_proceeds 0 [] last a b x.proceeds (turnless (x.proceeds.sending ++ last) none)) x.appends x.ties x.table x.named
+    (λ c _. begin_none c (x.proceeds.sending ++ last) none) (accepts_none (x.proceeds.sending ++ last) none)
+
 -- the end of a turn
 pub steps_ended : (a b : Server) → EndsTurn a b → Appends nothing a b → Ties b → IsTable (table_of b.hub) → b.hub.named ≡ a.hub.named → StepsWith 1 0 Every a b
 steps_ended a b x app ties table named =
@@ -320,3 +328,18 @@ steps_noted n h net t t' noted silent none = steps_still Every h net net t t'
       links = links_noted 0 0 (n ∷ []) (server h net t) (server h net t') (ap (λ (z : Bool). cond z 1 0) (or_right (is_turn n) (is_link_failure n) none)) (told_one t t' n noted) (rose_same net.faults);
     })
     refl (λ ties. ties) (λ short c there. short_silent c (ring_at h c) t t' n noted (silent c) (short c there)) (λ waits. waits) (λ there. there) (λ c p r. refl)
+
+-- ---- a link that takes octets again
+
+-- what is held is offered, where the connection is there
+pub steps_freed : (conn : ℕ) (a b : Server) → OffersIfThere conn a b → Steps Every a b
+steps_freed conn a b x = by_cases (is_present a.hub conn)
+    (λ there. steps_offered conn a b (x.there there))
+    (λ away. subst (λ (z : Server). Steps Every a z) (sym (x.away away)) (steps_same Every a))
+
+pub waits_freed : (conn : ℕ) (a b : Server) → OffersIfThere conn a b → ((c : ℕ) → c ≢ conn → Waits c a) → RingsWait b
+waits_freed conn a b x others = by_cases (is_present a.hub conn)
+    (λ there. (x.there there).waits others)
+    (λ away. subst RingsWait (sym (x.away away)) (λ c. ⊎_elim
+    (λ (same : c ≡ conn). λ here. clash (is_present a.hub conn) away (ap (is_present a.hub) (sym same) ∙ here))
+    (λ (ne : c ≡ conn → ⊥). others c ne) (cases_eq c conn)))

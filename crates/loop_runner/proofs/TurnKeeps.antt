@@ -1,10 +1,10 @@
 -- What is kept where a connection comes, and as a turn ends.
-use Rattle.loop_runner.proofs.Below.{◌≡◌, ◌<◌, ◌^◌, ◌-◌, ℕ, List, [], ◌∷◌, ◌++◌, length, take, Option, Some, None, Bool, true, false, cond, nat_eq, nat_lt, refl, sym, ap, ◌∙◌, subst, arith, length-append, ◌||◌, ◌≢◌, append-nil, nat_tests, Conn, ConfigValue, NoteValue, IsNoted, AreNoted, NetState, Nexts, Shuts, passing, passed_after, is_rest, NetEvent, RouteTable, is_gone_in, is_accepted, world, Follows, arrival, entries, sound_one, HubState, Server, server, has_entry, nothing, Appends, due_at, IsTable, table_of, Makes, Arrives, EndsTurn, Taken, Busy, Memory, told_one, Agrees, agrees_aside, told_is, none_but, new_above, agrees_entries, next_but, aside_but, AreSound, IntakeView, Kept, kept_arrived, none_due, sound_comes, sound_time, gone_accepted, kept_passing, sound_arrival, sound_turn, agrees_now, kept_tick, kept_busy, kept_memory, kept_no_room, kept_shut, kept_readable, kept_writable, kept_turned, Intake, IsNew, Beginning, Holds, KeptAll, meaning_of, intake_view, with_view, Grows, Onward, GrowsBy, Passes, is_opened}
+use Rattle.loop_runner.proofs.Below.{◌≡◌, ◌<◌, ◌^◌, ◌-◌, ℕ, List, [], ◌∷◌, ◌++◌, length, take, Option, Some, None, Bool, true, false, cond, nat_eq, nat_lt, refl, sym, ap, ◌∙◌, subst, arith, length-append, ◌||◌, ◌≢◌, append-nil, nat_tests, Conn, ConfigValue, NoteValue, IsNoted, AreNoted, NetState, Nexts, Shuts, passing, passed_after, is_rest, NetEvent, RouteTable, is_gone_in, is_accepted, world, Follows, arrival, entries, sound_one, HubState, Server, server, has_entry, nothing, Appends, due_at, IsTable, table_of, Makes, Arrives, EndsTurn, Taken, Busy, Memory, told_one, Agrees, agrees_aside, told_is, none_but, new_above, agrees_entries, next_but, aside_but, AreSound, IntakeView, Kept, kept_arrived, none_due, sound_comes, sound_time, gone_accepted, kept_passing, sound_arrival, sound_turn, agrees_now, kept_tick, kept_busy, kept_memory, kept_no_room, kept_shut, kept_readable, kept_writable, kept_turned, Intake, IsNew, Beginning, Holds, KeptAll, meaning_of, intake_view, with_view, Grows, Onward, GrowsBy, Passes, is_opened, is_present, Offers, by_cases, kept_offered, sound_offer, OffersIfThere}
 use Rattle.ws_kinds.specs.NoteValue as note
 use Rattle.link_trait.specs.declared.net.NetEvent.TheVariants as event
 use Rattle.run_meaning.specs.Server as run
-use Rattle.loop_runner.proofs.GrowLemmas.{grows_then, grows_makes, grows_noted, grows_next, grows_shut, grows_ended}
-use Rattle.loop_runner.proofs.OpenLemmas.{opens_ended, opens_same, opens_then}
+use Rattle.loop_runner.proofs.GrowLemmas.{grows_then, grows_makes, grows_noted, grows_next, grows_shut, grows_ended, grows_proceeds}
+use Rattle.loop_runner.proofs.OpenLemmas.{opens_ended, opens_offered, opens_same, opens_then}
 use Rattle.loop_runner.proofs.KeepLemmas.{keep_on, keep_notes, few_of}
 use Rattle.loop_runner.proofs.ViewLemmas.{with_here, with_other}
 
@@ -178,7 +178,7 @@ module _ {S : Type 0} (b : Beginning S) (h : HubState) (before net : NetState) (
   keep_readable conn next = keep_answer (event.Readable conn) next (λ replies ns k. kept_readable (meaning_of b replies) b.config b.table ns was now views k conn net next)
 
   -- or takes octets
-  pub keep_writable : (conn : Conn) → Nexts (event.Writable conn) before net → KeptAll b was now views None → KeptAll b (server h net t) now views None
+  keep_writable : (conn : Conn) → Nexts (event.Writable conn) before net → KeptAll b was now views None → KeptAll b (server h net t) now views None
   keep_writable conn next = keep_answer (event.Writable conn) next (λ replies ns k. kept_writable (meaning_of b replies) b.config b.table ns was now views k conn net next)
 
   -- time went by
@@ -191,6 +191,27 @@ module _ {S : Type 0} (b : Beginning S) (h : HubState) (before net : NetState) (
         kept_tick r b.config b.table ns was now views x.kept net d ms few next makes app told x.whole whole,
         sound_time r b.config ns was x.kept.agrees none x.sound,
       ))
+
+  -- what is held is offered
+  keep_offered : (conn : Conn) (d : Server) → Nexts (event.Writable conn) before net → Offers conn.0 (server h net t) d → KeptAll b was now views None → KeptAll b d now views None
+  keep_offered conn d next offers =
+      let m = server h net t in
+      keep_on b was d now now views views None None (grows_then was m d (grows_next (event.Writable conn) h before net t next) (grows_proceeds [] _ m d offers.proceeds)) (opens_then was m d (grows_proceeds [] _ m d offers.proceeds) (opens_same was m refl) (opens_offered conn.0 m d offers))
+      (λ replies ns ms known tells told agree items x.
+      let r = meaning_of b replies in
+      let both = kept_offered r b.config b.table ns was now views x.kept conn net d ms offers next told x.whole in
+      let at = kept_writable r b.config b.table ns was now views x.kept conn net next in
+      record {
+        kept = both.1;
+        sound = subst (λ (z : List NoteValue). AreSound r b.config z) (sym both.0) (sound_offer r b.config ns ms conn.0 m d offers at.agrees told at.follows.taken (few_of r ns items) x.sound).0;
+        whole = offers.table;
+      })
+
+  -- where the connection is there, and else nothing is
+  pub keep_freed : (conn : Conn) (d : Server) → Nexts (event.Writable conn) before net → OffersIfThere conn.0 (server h net t) d → KeptAll b was now views None → KeptAll b d now views None
+  keep_freed conn d next x k = by_cases (is_present h conn.0)
+      (λ there. keep_offered conn d next (x.there there) k)
+      (λ away. subst (λ (z : Server). KeptAll b z now views None) (sym (x.away away)) (keep_writable conn next k))
 
   -- the turn ends
   pub keep_ended : (answer : NetEvent) (d : Server) → is_rest answer ≡ true → Nexts answer before net → length before.passed < 2 ^ 64 - 1 → EndsTurn (server h net t) d → Appends nothing (server h net t) d → IsTable (table_of d.hub)

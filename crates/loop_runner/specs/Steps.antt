@@ -11,11 +11,12 @@ use Rattle.run_meaning.specs.Settled.{is_reading}
 use Rattle.frame_reader.specs.declared.reader.Reader.{Reader}
 use Rattle.frame_reader.specs.Reader as reader
 use Rattle.frame_reader.specs.Reader.{has_ended}
-use Rattle.hub_lines.specs.State.{HubState, Server, phase_at}
+use Rattle.hub_lines.specs.State.{HubState, Server, is_present, phase_at}
 use Rattle.hub_lines.specs.Calls.{Ties, ShortRings}
 use Rattle.hub_notes.specs.Progress.{Progress, progress_at}
 use Rattle.hub_notes.specs.Fronts.{RingsWait}
 use Rattle.hub_notes.specs.Table.{IsTable, is_kept, table_of}
+use Rattle.hub_notes.specs.Turns.{Offers}
 use Rattle.run_kept.specs.Ends.{AreThere}
 use Rattle.loop_runner.specs.declared.intakes.Intake.{Intake}
 use Rattle.loop_runner.specs.declared.intakes.Intakes.{Intakes}
@@ -110,6 +111,11 @@ pub record Takes (conn : ℕ) (before after : Reader) (old new : Server) : Type 
   pub asked : IsAsked conn new
   pub taken : IsTaken (phase_at new.hub conn) after
   pub max : reader.max_of after ≡ reader.max_of before
+
+-- What is held for a connection is offered to its link, where it is an entry that is not gone, and else nothing changes.
+pub record OffersIfThere (conn : ℕ) (old new : Server) : Type 0 where
+  pub there : is_present old.hub conn ≡ true → Offers conn old new
+  pub away : is_present old.hub conn ≡ false → new ≡ old
 
 -- what holds within a turn, and of these connections what holds between events
 pub record Running (P : ℕ → Type 0) (intakes : Intakes) (s : Server) : Type 0 where

@@ -1,8 +1,6 @@
 //! Turns over a net in memory.
 
 ghost use Rattle.std.specs.Prelude.{◌≡◌};
-ghost use Rattle.std.specs.List.{list_all};
-ghost use Rattle.mem_net.specs.Schedule as spec;
 
 use super::*;
 use hub_core::Hub;
@@ -175,26 +173,10 @@ fn schedule_of(rt: &HostRuntime, rows: &[Row<'_>]) -> Result<Schedule, Fail> {
     Ok(schedule)
 }
 
-fn is_plain(act: &Act) -> bool
-    ensures { result ≡ spec.is_plain act.now }
-{
-    match act {
-        Act::Arrive { credit, .. } => credit.is_none(),
-        Act::Room { .. } | Act::WriteFails(_) => false,
-        _ => true,
-    }
-}
-
-fn are_plain(acts: &[Act]) -> bool
-    ensures { result ≡ list_all spec.is_plain acts.now }
-{
-    acts.iter().all(|act| is_plain(act))
-}
-
 /// A net that follows these acts.
 fn net_of(rt: &HostRuntime, rows: &[Row<'_>]) -> Result<MemNet, Fail> {
     let schedule = schedule_of(rt, rows)?;
-    if !schedule.sound() || !are_plain(schedule.acts()) {
+    if !schedule.sound() {
         return Err(Fail::new("the schedule"));
     }
     Ok(MemNet::new(rt.alloc(), schedule).ok().ok_or("memory")?)

@@ -1,10 +1,12 @@
 //! One turn.
 
 ghost use Rattle.std.specs.Prelude.{◌≡◌, ℕ, None};
+ghost use Rattle.hub_lines.specs.State.{is_present};
+ghost use Rattle.hub_lines.specs.Calls.{Ties};
 ghost use Rattle.hub_notes.specs.Progress.{due_at};
 ghost use Rattle.hub_core.specs.At.{at};
 ghost use Rattle.loop_runner.specs.Ready.{Ready};
-ghost use Rattle.loop_runner.specs.Steps.{Every, Running};
+ghost use Rattle.loop_runner.specs.Steps.{Every, OffersIfThere, Running};
 ghost use Rattle.loop_runner.specs.Moments.{moment, KeepsOn};
 ghost use Rattle.loop_runner.specs.Turning.{TakesEvent, EndsEvents, MakesTurn};
 
@@ -15,7 +17,7 @@ use crate::reading::readable;
 use hub_core::Hub;
 use link_trait::{Net, NetEvent, Outside};
 use route_table::Routes;
-use ws_kinds::{Handler, Watch};
+use ws_kinds::{Conn, Handler, Phase, Watch};
 
 /// How a turn ended.
 #[derive(Clone, Copy, Debug, PartialEq, Eq)]
@@ -105,8 +107,9 @@ fn take_event<N: Net, W: Watch, H: Handler>(
             close_all(hub, intakes, out, handler);
             None
         }
-        NetEvent::Writable(_) => {
-            hub.no_rings();
+        NetEvent::Writable(conn) => {
+            offer(hub, out, conn);
+            close_all(hub, intakes, out, handler);
             None
         }
         NetEvent::Tick => {
@@ -126,6 +129,31 @@ fn take_event<N: Net, W: Watch, H: Handler>(
             end_turn(hub, intakes, out, handler);
             Some(Turned::Failed)
         }
+    }
+}
+
+/// Offers what is held for a connection, whose link takes octets again. For one that is not there nothing is done.
+fn offer<N: Net, W: Watch>(hub: &mut Hub, out: &mut Outside<N, W>, conn: Conn)
+    requires ties { Ties (at N.Net W.Watch hub.old out.old) }
+    ensures { OffersIfThere conn.0 (at N.Net W.Watch hub.old out.old) (at N.Net W.Watch hub.new out.new) }
+{
+    if !is_there(hub, conn) {
+        return;
+    }
+    hub.writable(out, conn);
+}
+
+/// Whether a connection is an entry that is not gone.
+fn is_there(hub: &Hub, conn: Conn) -> bool
+    ensures { result ≡ is_present hub.now conn.0 }
+{
+    match hub.phase(conn) {
+        None => false,
+        Some(Phase::Head) => true,
+        Some(Phase::Open) => true,
+        Some(Phase::Leaving) => true,
+        Some(Phase::Ending) => true,
+        Some(Phase::Gone) => false,
     }
 }
 

@@ -1,5 +1,5 @@
 -- The acts of a seed can be followed.
-use Rattle.made_schedule.proofs.Below.{◌≡◌, ℕ, zero, suc, ◌+◌, ◌*◌, ◌%◌, ◌^◌, ◌<◌, ◌≤◌, ◌||◌, Bool, true, false, nat_eq, nat_lt, nat_le, List, [], ◌∷◌, ◌++◌, length, None, refl, sym, ◌∙◌, ap, arith, append_assoc, subst, ◌⊎◌, inl, inr, cases_lt, or_true, nat_tests, append-nil, list_all-append, list_any-append, list_all, Act, are_sound_after, has_arrived, has_ended, is_arrival, is_below, is_ending, is_number, is_plain, is_rising, is_sound, is_sound_after, state_after, message, octets_of, sender_of, made_acts, messages, openings, room_head, round, rounds}
+use Rattle.made_schedule.proofs.Below.{◌≡◌, ℕ, zero, suc, ◌+◌, ◌*◌, ◌%◌, ◌^◌, ◌<◌, ◌≤◌, ◌||◌, Bool, true, false, nat_eq, nat_lt, nat_le, List, [], ◌∷◌, ◌++◌, length, None, refl, sym, ◌∙◌, ap, arith, append_assoc, subst, ◌⊎◌, inl, inr, cases_lt, or_true, nat_tests, append-nil, list_all-append, list_any-append, list_all, Act, are_sound_after, has_arrived, has_ended, is_arrival, is_below, is_ending, is_number, is_rising, is_sound, is_sound_after, state_after, message, octets_of, sender_of, made_acts, messages, openings, room_head, round, rounds}
 use Rattle.link_trait.specs.declared.act.Act.TheVariants as act
 
 -- a sound act behind sound acts
@@ -13,10 +13,9 @@ sound_push before (a ∷ acts) one h e =
     let there : is_sound_after ((before ++ a ∷ []) ++ acts) one ≡ true = ap (λ l. is_sound_after l one) (append_assoc before (a ∷ []) acts) ∙ e in
     rw (first, sound_push (before ++ a ∷ []) acts one rest there) refl
 
--- These acts are sound and plain; every connection up to a number came, and none above; none has ended.
+-- These acts are sound; every connection up to a number came, and none above; none has ended.
 pub record IsOpenTo (last : ℕ) (acts : List Act) : Type 0 where
   pub sound : is_sound acts ≡ true
-  pub plain : list_all is_plain acts ≡ true
   pub came : (number : ℕ) → 1 ≤ number → number ≤ last → has_arrived acts number ≡ true
   pub above : (number : ℕ) → last < number → is_rising acts number ≡ true
   pub going_on : (number : ℕ) → has_ended acts number ≡ false
@@ -24,7 +23,6 @@ pub record IsOpenTo (last : ℕ) (acts : List Act) : Type 0 where
 none_open : IsOpenTo 0 []
 none_open = record {
   sound = refl;
-  plain = refl;
   came = λ number low high. absurd (omega arith);
   above = λ number h. refl;
   going_on = λ number. refl;
@@ -45,18 +43,16 @@ arrive_more last acts h o =
     let rising : is_rising acts (suc last) ≡ true = o.above (suc last) (omega arith) in
     record {
       sound = sound_push [] acts one o.sound (rw (fits, rising) refl);
-      plain = list_all-append is_plain acts (one ∷ []) ∙ rw o.plain refl;
       came = λ number low high. list_any-append (is_arrival number) acts (one ∷ []) ∙ came_by last number (has_arrived acts number) (λ k. o.came number low k) high (cases_lt number (suc last));
       above = λ number k. list_all-append (is_below number) acts (one ∷ []) ∙ (let b : nat_lt (suc last) number ≡ true = grind (arith, nat_tests) in rw (o.above number (omega arith), b) refl);
       going_on = λ number. list_any-append (is_ending number) acts (one ∷ []) ∙ rw (o.going_on number) refl;
     }
 
 -- an act that is no arrival and no end
-act_more : (last : ℕ) (acts : List Act) (one : Act) → is_sound_after acts one ≡ true → is_plain one ≡ true → ((number : ℕ) → is_below number one ≡ true) → ((number : ℕ) → is_ending number one ≡ false)
+act_more : (last : ℕ) (acts : List Act) (one : Act) → is_sound_after acts one ≡ true → ((number : ℕ) → is_below number one ≡ true) → ((number : ℕ) → is_ending number one ≡ false)
     → IsOpenTo last acts → IsOpenTo last (acts ++ one ∷ [])
-act_more last acts one sound plain below ending o = record {
+act_more last acts one sound below ending o = record {
   sound = sound_push [] acts one o.sound sound;
-  plain = list_all-append is_plain acts (one ∷ []) ∙ rw (o.plain, plain) refl;
   came = λ number low high. list_any-append (is_arrival number) acts (one ∷ []) ∙ rw (o.came number low high) refl;
   above = λ number k. list_all-append (is_below number) acts (one ∷ []) ∙ rw (o.above number k, below number) refl;
   going_on = λ number. list_any-append (is_ending number) acts (one ∷ []) ∙ rw (o.going_on number, ending number) refl;
@@ -68,10 +64,10 @@ octets_more last conn octets acts low high bound some few o =
     let fits : is_number conn ≡ true = number_is conn low (omega arith) in
     let there : has_arrived acts conn ≡ true = o.came conn low high in
     let going_on : has_ended acts conn ≡ false = o.going_on conn in
-    act_more last acts (act.Octets (record { 0 = conn }) octets) (rw (fits, there, going_on, some, few) refl) refl (λ number. refl) (λ number. refl) o
+    act_more last acts (act.Octets (record { 0 = conn }) octets) (rw (fits, there, going_on, some, few) refl) (λ number. refl) (λ number. refl) o
 
 turn_more : (last : ℕ) (acts : List Act) → IsOpenTo last acts → IsOpenTo last (acts ++ act.Turn ∷ [])
-turn_more last acts o = act_more last acts act.Turn refl refl (λ number. refl) (λ number. refl) o
+turn_more last acts o = act_more last acts act.Turn refl (λ number. refl) (λ number. refl) o
 
 head_some : nat_le 1 (length room_head) ≡ true
 unfolding room_head

@@ -1,8 +1,7 @@
 //! The acts in order.
 
 ghost use Rattle.std.specs.Prelude.{◌≡◌, ◌++◌, ◌∷◌, [], true, IfOk, OnOk};
-ghost use Rattle.std.specs.List.{list_all};
-ghost use Rattle.mem_net.specs.Schedule.{is_plain, is_sound};
+ghost use Rattle.mem_net.specs.Schedule.{is_sound};
 ghost use Rattle.made_schedule.specs.Generator.{state_after};
 ghost use Rattle.made_schedule.specs.Made.{made_acts, opening, openings, room_head, round, rounds};
 
@@ -32,7 +31,6 @@ const ROOM_HEAD: &[u8; 146] =
 pub fn made(alloc: Global, seed: u64) -> Result<Schedule, AllocError>
     ensures acts { IfOk result (λ schedule. schedule ≡ made_acts seed) }
     ensures sound { IfOk result (λ schedule. is_sound schedule ≡ true) }
-    ensures plain { IfOk result (λ schedule. list_all is_plain schedule ≡ true) }
 {
     let mut schedule = Schedule::new(alloc);
     push_openings(alloc, &mut schedule)?;

@@ -1,7 +1,8 @@
 -- Lemmas on links that follow the acts of a schedule.
-use Rattle.mem_net.proofs.Below.{◌≡◌, ℕ, ◌<◌, List, [], ◌∷◌, ◌++◌, ◌&&◌, ◌||◌, not, length, take, drop, Bool, true, false, nat_eq, nat_lt, refl, sym, ◌∙◌, ap, arith, append_assoc, length-append, nat_tests, append-nil, list_any-append, flat_map-append, take-append_seam, drop-append_seam, is_arrival, has_arrived, has_ended, LinkState, is_finish, sent, sent_by, finish_by, finish_of, or_then, is_fault, LinkFollows, Act, Finish, or_false}
+use Rattle.mem_net.proofs.Below.{◌≡◌, ℕ, ◌<◌, List, [], ◌∷◌, ◌++◌, ◌&&◌, ◌||◌, not, length, take, drop, Bool, true, false, nat_eq, nat_lt, refl, sym, ◌∙◌, ap, arith, append_assoc, length-append, Option, Some, None, ◌≤◌, ◌+◌, ◌-◌, ◌^◌, min, nat_le, option_map, if◌then◌else◌, nat_tests, append-nil, list_any-append, flat_map-append, take-append_seam, drop-append_seam, is_arrival, has_arrived, has_ended, is_sound_after, LinkState, is_finish, arrives, new_link, changes, failing_changed, counted, gained, sent, sent_by, finish_by, finish_of, or_then, is_fault, credit_by, credit_of, is_write_failure, writes_fail, LinkFollows, IsWithin, Takes, LinkTakes, is_short, Act, Finish, or_false, or_true, fold_push, IsChanging, Change}
 use Rattle.link_trait.specs.declared.act.Act.TheVariants as act
 use Rattle.mem_net.specs.declared.mem_link.Finish.TheVariants as finish
+use Rattle.mem_net.specs.declared.mem_link.Change.TheVariants as change
 
 pub or_then_later : (f : Finish) → or_then f finish.Later ≡ f
 or_then_later finish.Later = refl
@@ -22,6 +23,23 @@ sent_push c acts one = flat_map-append (sent_by c) acts (one ∷ []) ∙ ap (λ 
 
 pub arrived_push : (c : ℕ) (acts : List Act) (one : Act) → has_arrived (acts ++ one ∷ []) c ≡ (has_arrived acts c || is_arrival c one)
 arrived_push c acts one = list_any-append (is_arrival c) acts (one ∷ []) ∙ ap (λ b. has_arrived acts c || b) (or_false (is_arrival c one))
+
+credit_push : (c : ℕ) (acts : List Act) (one : Act) → credit_of c (acts ++ one ∷ []) ≡ credit_by c (credit_of c acts) one
+credit_push c acts one = fold_push (credit_by c) (Some 0) acts one
+
+failure_push : (c : ℕ) (acts : List Act) (one : Act) → writes_fail c (acts ++ one ∷ []) ≡ (writes_fail c acts || is_write_failure c one)
+failure_push c acts one = list_any-append (is_write_failure c) acts (one ∷ []) ∙ ap (λ b. writes_fail c acts || b) (or_false (is_write_failure c one))
+
+-- an act that leaves what the link of c takes
+pub record IsStill (c : ℕ) (one : Act) : Type 0 where
+  pub credit : (before : Option ℕ) → credit_by c before one ≡ before
+  pub failure : is_write_failure c one ≡ false
+
+takes_still : (c : ℕ) (before : List Act) (one : Act) (link : LinkState) → IsStill c one → LinkTakes c before link → LinkTakes c (before ++ one ∷ []) link
+takes_still c before one link s t =
+    let credit : credit_of c (before ++ one ∷ []) ≡ credit_of c before = credit_push c before one ∙ s.credit (credit_of c before) in
+    let failure : writes_fail c (before ++ one ∷ []) ≡ writes_fail c before = failure_push c before one ∙ ap (λ b. writes_fail c before || b) s.failure ∙ or_false (writes_fail c before) in
+    rw (credit, failure) t
 
 -- nothing ended yet
 pub finishes_later : (c : ℕ) (acts : List Act) → has_ended acts c ≡ false → finish_of c acts ≡ finish.Later
@@ -46,6 +64,7 @@ pub record IsApart (c : ℕ) (one : Act) : Type 0 where
   pub sent : sent_by c one ≡ []
   pub finish : finish_by c one ≡ finish.Later
   pub arrival : is_arrival c one ≡ false
+  pub still : IsStill c one
 
 pub fits_apart : (c : ℕ) (before rest : List Act) (one : Act) (whole : Bool) (link : LinkState) → IsApart c one → LinkFollows c before (one ∷ rest) whole link → LinkFollows c (before ++ one ∷ []) rest whole link
 fits_apart c before rest one whole link a f = record {
@@ -58,6 +77,7 @@ fits_apart c before rest one whole link a f = record {
   broken = f.broken;
   unbroken = f.unbroken;
   quiet = λ h. f.quiet (let e = arrived_push c before one in grind arith);
+  takes = takes_still c before one link a.still f.takes;
 }
 
 no_answer : {A : Type 0} (answered : Bool) (end : Finish) → end ≡ finish.Later → (answered ≡ true → A × (is_finish end ≡ true)) → answered ≡ false
@@ -79,24 +99,43 @@ not_answered c before rest whole link h f =
     let later : link.finish ≡ finish.Later = f.finish ∙ finishes_later c before h in
     (later, no_answer link.answered link.finish later f.answered)
 
-pub fits_arrive : (c : ℕ) (before rest : List Act) (one : Act) (whole : Bool) (link : LinkState) → is_arrival c one ≡ true → sent_by c one ≡ [] → finish_by c one ≡ finish.Later → LinkFollows c before (one ∷ rest) whole link
-    → LinkFollows c (before ++ one ∷ []) rest whole (record link { live = true })
-fits_arrive c before rest one whole link a s g f = record {
-  came = f.came ∙ sym (sent_push c before one ∙ rw s (append-nil (sent c before)));
-  coming = f.coming ∙ rw s refl;
-  finish = f.finish ∙ sym (finish_push c before one ∙ rw g (or_then_later (finish_of c before)));
-  ready = f.ready;
-  answered = f.answered;
-  ended = f.ended;
-  broken = f.broken;
-  unbroken = f.unbroken;
-  quiet = λ h. let come = came_now _ (has_arrived before c) (is_arrival c one) (arrived_push c before one) a in cc;
-}
+-- a link that has taken nothing, once its connection arrives
+takes_first : (credit : Option ℕ) (fails : Bool) (link : LinkState) → link.failing ≡ fails → link ≡ new_link link.coming → Takes credit fails true link.writable link.failing (is_short link.writes) (counted credit) (length link.taken)
+takes_first credit fails link same quiet =
+    let none : length link.taken ≡ 0 = ap (λ l. length l.taken) quiet in
+    let whole : is_short link.writes ≡ false = ap (λ l. is_short l.writes) quiet in
+    let writable : link.writable ≡ true = ap (λ l. l.writable) quiet in
+    record { credit_is = refl; failing_is = same; few = omega arith; within = within_none credit (length link.taken) none; full = λ l h. cc; more = λ h s f. cc }
+  where
+    within_none : (most : Option ℕ) (count : ℕ) → count ≡ 0 → IsWithin count most
+    within_none None count e = tt
+    within_none (Some most) count e = omega arith
+
+pub fits_arrive : (c : ℕ) (before rest : List Act) (credit : Option ℕ) (whole : Bool) (link : LinkState) → has_arrived before c ≡ false → LinkFollows c before (act.Arrive (record { 0 = c }) credit ∷ rest) whole link
+    → LinkFollows c (before ++ act.Arrive (record { 0 = c }) credit ∷ []) rest whole (arrives credit link)
+fits_arrive c before rest credit whole link new f =
+    let one = act.Arrive (record { 0 = c }) credit in
+    let a : is_arrival c one ≡ true = grind (arith, nat_tests) in
+    let same : nat_eq c c ≡ true = grind (arith, nat_tests) in
+    let credit_now : credit_of c (before ++ one ∷ []) ≡ credit = credit_push c before one ∙ rw same refl in
+    let failure : writes_fail c (before ++ one ∷ []) ≡ writes_fail c before = failure_push c before one ∙ or_false (writes_fail c before) in
+    record {
+      came = f.came ∙ sym (sent_push c before one ∙ append-nil (sent c before));
+      coming = f.coming;
+      finish = f.finish ∙ sym (finish_push c before one ∙ or_then_later (finish_of c before));
+      ready = f.ready;
+      answered = f.answered;
+      ended = f.ended;
+      broken = f.broken;
+      unbroken = f.unbroken;
+      quiet = λ h. let come = came_now _ (has_arrived before c) (is_arrival c one) (arrived_push c before one) a in cc;
+      takes = rw (credit_now, failure) (takes_first credit (writes_fail c before) link f.takes.failing_is (f.quiet new));
+    }
 
 pub fits_come : (c : ℕ) (before rest : List Act) (one : Act) (octets : List ℕ) (due whole : Bool) (link : LinkState) → has_arrived before c ≡ true → has_ended before c ≡ false
-    → sent_by c one ≡ octets → finish_by c one ≡ finish.Later → 0 < length octets → LinkFollows c before (one ∷ rest) whole link
+    → sent_by c one ≡ octets → finish_by c one ≡ finish.Later → IsStill c one → 0 < length octets → LinkFollows c before (one ∷ rest) whole link
     → LinkFollows c (before ++ one ∷ []) rest whole (record link { waiting = link.waiting ++ take (length octets) link.coming; coming = drop (length octets) link.coming; due = due })
-fits_come c before rest one octets due whole link a e s g n f =
+fits_come c before rest one octets due whole link a e s g still n f =
     let quiet = not_answered c before (one ∷ rest) whole link e f in
     let coming : link.coming ≡ octets ++ sent c rest = f.coming ∙ rw s refl in
     let come : take (length octets) link.coming ≡ octets = rw coming (take-append_seam octets (sent c rest)) in
@@ -112,6 +151,7 @@ fits_come c before rest one octets due whole link a e s g n f =
       broken = f.broken;
       unbroken = f.unbroken;
       quiet = λ h. let come = came_before _ (has_arrived before c) (is_arrival c one) (arrived_push c before one) a in cc;
+      takes = takes_still c before one link still f.takes;
     }
 
 waits_or_ends : (waits answered ends : Bool) → answered ≡ false → ends ≡ true → (waits || (not answered && ends)) ≡ true
@@ -119,9 +159,9 @@ waits_or_ends true answered ends a e = refl
 waits_or_ends false answered ends a e = rw (a, e) refl
 
 pub fits_finish : (c : ℕ) (before rest : List Act) (one : Act) (end : Finish) (due whole : Bool) (link : LinkState) → has_arrived before c ≡ true → has_ended before c ≡ false
-    → sent_by c one ≡ [] → finish_by c one ≡ end → is_finish end ≡ true → LinkFollows c before (one ∷ rest) whole link
+    → sent_by c one ≡ [] → finish_by c one ≡ end → IsStill c one → is_finish end ≡ true → LinkFollows c before (one ∷ rest) whole link
     → LinkFollows c (before ++ one ∷ []) rest whole (record link { finish = end; due = due })
-fits_finish c before rest one end due whole link a e s g n f =
+fits_finish c before rest one end due whole link a e s g still n f =
     let quiet = not_answered c before (one ∷ rest) whole link e f in
     let later : finish_of c before ≡ finish.Later = finishes_later c before e in
     record {
@@ -132,6 +172,79 @@ fits_finish c before rest one end due whole link a e s g n f =
       answered = λ h. cc;
       ended = f.ended ∙ rw quiet.1 refl;
       broken = λ h. let none : (link.answered && is_fault end) ≡ false = rw quiet.1 refl in cc;
-      unbroken = λ w h. let none : (link.answered && is_fault link.finish) ≡ false = rw quiet.1 refl in let some = f.unbroken w h in cc;
+      unbroken = λ w h.
+          let none : (link.answered && is_fault link.finish) ≡ false = rw quiet.1 refl in
+          or_true (link.answered && is_fault end) link.failing (ap (λ b. b || link.failing) (sym none) ∙ f.unbroken w h);
       quiet = λ h. let come = came_before _ (has_arrived before c) (is_arrival c one) (arrived_push c before one) a in cc;
+      takes = takes_still c before one link still f.takes;
     }
+
+not_both : (b d : Bool) → d ≡ true → (b || d) ≡ false → ⊥
+not_both true d h e = cc
+not_both false d h e = cc
+
+-- a credit that is counted to most, and what is added
+counts_more : (credit more most : ℕ) → min (min credit most + more) most ≡ min (credit + more) most
+counts_more credit more most = omega arith
+
+-- a link that gains room, and one whose writes fail from now on
+takes_gain : (allowed : Option ℕ) (more : ℕ) (fails live writable failing short : Bool) (credit : Option ℕ) (count : ℕ) → 1 ≤ more → Takes allowed fails live writable failing short credit count
+    → Takes (option_map (λ octets. octets + more) allowed) fails live (writable || live) failing short (gained more credit) count
+takes_gain None more fails live writable failing short credit count some t =
+    record { credit_is = rw t.credit_is refl; failing_is = t.failing_is; few = t.few; within = tt; full = λ l w. absurd (not_both writable live l w); more = λ w s f. tt }
+takes_gain (Some most) more fails live writable failing short credit count some t =
+    let within = t.within in
+    record {
+      credit_is = rw t.credit_is (ap Some (counts_more most more (2 ^ 64 - 1)));
+      failing_is = t.failing_is;
+      few = t.few;
+      within = omega arith;
+      full = λ l w. absurd (not_both writable live l w);
+      more = λ w s f. omega arith;
+    }
+
+takes_fail : (allowed : Option ℕ) (fails live writable failing short : Bool) (credit : Option ℕ) (count : ℕ) → Takes allowed fails live writable failing short credit count → Takes allowed true live (writable || live) true short credit count
+takes_fail allowed fails live writable failing short credit count t =
+    record { credit_is = t.credit_is; failing_is = refl; few = t.few; within = t.within; full = λ l w. absurd (not_both writable live l w); more = λ w s f. cc }
+
+still_broken : (what : Change) (fault failing : Bool) → (fault || failing) ≡ true → (fault || failing_changed what failing) ≡ true
+still_broken (change.Gains more) fault failing h = h
+still_broken change.Fails fault failing h = or_true fault true refl
+
+-- the link takes what it takes by an act that changes it
+takes_changed : (what : Change) (c : ℕ) (before : List Act) (one : Act) (link : LinkState) → IsChanging c what one → is_sound_after before one ≡ true → LinkTakes c before link → LinkTakes c (before ++ one ∷ []) (changes what link)
+takes_changed what c before (act.Room other more) link s sound t =
+    let one = act.Room other more in
+    let same : nat_eq other.0 c ≡ true = grind (arith, nat_tests) in
+    let positive : nat_le 1 more ≡ true = grind arith in
+    let some : 1 ≤ more = grind (arith, nat_tests) in
+    let credit : credit_of c (before ++ one ∷ []) ≡ option_map (λ octets. octets + more) (credit_of c before) = credit_push c before one ∙ rw same refl in
+    let failure : writes_fail c (before ++ one ∷ []) ≡ writes_fail c before = failure_push c before one ∙ or_false (writes_fail c before) in
+    rw (credit, failure, s.1) (takes_gain (credit_of c before) more (writes_fail c before) link.live link.writable link.failing (is_short link.writes) link.credit (length link.taken) some t)
+takes_changed what c before (act.WriteFails other) link s sound t =
+    let one = act.WriteFails other in
+    let same : nat_eq other.0 c ≡ true = grind (arith, nat_tests) in
+    let credit : credit_of c (before ++ one ∷ []) ≡ credit_of c before = credit_push c before one in
+    let failure : writes_fail c (before ++ one ∷ []) ≡ true = failure_push c before one ∙ or_true (writes_fail c before) (nat_eq other.0 c) same in
+    rw (credit, failure, s.1) (takes_fail (credit_of c before) (writes_fail c before) link.live link.writable link.failing (is_short link.writes) link.credit (length link.taken) t)
+takes_changed what c before (act.Arrive other credit) link s sound t = absurd s
+takes_changed what c before (act.Octets other octets) link s sound t = absurd s
+takes_changed what c before (act.End other) link s sound t = absurd s
+takes_changed what c before (act.ReadFails other) link s sound t = absurd s
+takes_changed what c before act.Tick link s sound t = absurd s
+takes_changed what c before act.Turn link s sound t = absurd s
+
+pub fits_change : (what : Change) (c : ℕ) (before rest : List Act) (one : Act) (whole : Bool) (link : LinkState) → IsChanging c what one → is_sound_after before one ≡ true → has_arrived before c ≡ true → sent_by c one ≡ [] → finish_by c one ≡ finish.Later
+    → LinkFollows c before (one ∷ rest) whole link → LinkFollows c (before ++ one ∷ []) rest whole (changes what link)
+fits_change what c before rest one whole link is sound a s g f = record {
+  came = f.came ∙ sym (sent_push c before one ∙ rw s (append-nil (sent c before)));
+  coming = f.coming ∙ rw s refl;
+  finish = f.finish ∙ sym (finish_push c before one ∙ rw g (or_then_later (finish_of c before)));
+  ready = f.ready;
+  answered = f.answered;
+  ended = f.ended;
+  broken = f.broken;
+  unbroken = λ w h. still_broken what (link.answered && is_fault link.finish) link.failing (f.unbroken w h);
+  quiet = λ h. let come = came_before _ (has_arrived before c) (is_arrival c one) (arrived_push c before one) a in cc;
+  takes = takes_changed what c before one link is sound f.takes;
+}

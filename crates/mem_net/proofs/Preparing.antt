@@ -1,5 +1,5 @@
 -- Lemmas on the links of a net in memory before the first act.
-use Rattle.mem_net.proofs.Below.{◌≡◌, ◌≢◌, ℕ, zero, suc, ◌+◌, ◌^◌, ◌<◌, List, [], ◌∷◌, ◌++◌, ◌||◌, length, take, get_or, map, Bool, true, false, Option, Some, nat_eq, nat_lt, slice_get, slice_set, refl, sym, ◌∙◌, ap, arith, append_assoc, option_map, if◌then◌else◌, list_any, list_all, nat_tests, append-nil, map-append, list_any-append, slice_get-map, slice_get_within, get_or_from_slice_get, flat_map-append, is_arrival, is_rising, has_arrived, is_sound_after, are_sound_after, is_sound, is_plain, LinkState, new_link, is_untold, arrives_by, arrivals, sent, sent_by, link_of, new_links, start_net, Rises, Keeps, Act}
+use Rattle.mem_net.proofs.Below.{◌≡◌, ◌≢◌, ℕ, zero, suc, ◌+◌, ◌^◌, ◌<◌, List, [], ◌∷◌, ◌++◌, ◌||◌, length, take, get_or, map, Bool, true, false, Option, Some, nat_eq, nat_lt, slice_get, slice_set, refl, sym, ◌∙◌, ap, arith, append_assoc, option_map, if◌then◌else◌, list_any, list_all, nat_tests, append-nil, map-append, list_any-append, slice_get-map, slice_get_within, get_or_from_slice_get, flat_map-append, is_arrival, is_rising, has_arrived, is_sound_after, are_sound_after, is_sound, LinkState, new_link, is_untold, arrives_by, arrivals, sent, sent_by, link_of, new_links, start_net, Rises, Keeps, Act}
 use Rattle.link_trait.specs.declared.act.Act.TheVariants as act
 use Rattle.mem_net.proofs.Places.{above}
 use Rattle.mem_net.proofs.Schedules.{sound_at, sound_rises, arrived}
@@ -119,13 +119,12 @@ none_live : (f : ℕ → LinkState) (p : LinkState → Bool) (ns : List ℕ) →
 none_live f p [] h = refl
 none_live f p (n ∷ ns) h = rw (h n, none_live f p ns h) refl
 
-pub starts : (acts : List Act) → length acts < 2 ^ 64 → is_sound acts ≡ true → list_all is_plain acts ≡ true → Keeps (arrivals acts) false (start_net acts)
-starts acts few sound plain = record {
+pub starts : (acts : List Act) → length acts < 2 ^ 64 → is_sound acts ≡ true → Keeps (arrivals acts) false (start_net acts)
+starts acts few sound = record {
   follows = record {
     few = few;
     done = omega arith;
     sound = sound;
-    plain = plain;
     links = length_made (λ c. new_link (sent c acts)) (arrivals acts);
     fits = λ c a.
         let made : link_of (arrivals acts) (new_links acts) c ≡ new_link (sent c acts) = link_made (λ d. new_link (sent d acts)) (arrivals acts) c (arrived acts c ∙ a) in
@@ -139,6 +138,7 @@ starts acts few sound plain = record {
           broken = λ h. cc;
           unbroken = λ w h. cc;
           quiet = λ h. refl;
+          takes = record { credit_is = refl; failing_is = refl; few = omega arith; within = omega arith; full = λ l h. cc; more = λ w s f. cc };
         });
     passed = omega arith;
     stops = λ h. refl;

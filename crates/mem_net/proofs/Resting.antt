@@ -87,6 +87,7 @@ fits_weaker c done rest old new link w f = record {
   broken = f.broken;
   unbroken = λ n. f.unbroken (w n);
   quiet = f.quiet;
+  takes = f.takes;
 }
 
 -- the acts done and those to come are the same
@@ -111,7 +112,6 @@ touched c i old new link t here told =
       few = rw acts few;
       done = omega arith;
       sound = rw t.moves.acts t.follows.sound;
-      plain = rw t.moves.acts t.follows.plain;
       links = t.length ∙ t.follows.links ∙ ap (λ l. length (arrivals l)) (sym t.moves.acts);
       fits = λ d a.
           let came : has_arrived old.acts d ≡ true = ap (λ l. has_arrived l d) (sym t.moves.acts) ∙ a in
@@ -174,7 +174,7 @@ again conn i old new link t e untold faults port whole rest =
           due_elsewhere = moved_but (λ l. l.due) conn i old new link m;
           live = moved_same (λ l. l.live) conn i old new link m (ap (λ l. l.live) e);
           named = touched_named conn i old new link t;
-          writable = λ other. refl;
+          writable = moved_same (λ l. l.writable) conn i old new link m (ap (λ l. l.writable) e);
           room = omega arith;
         };
         port = port;
@@ -197,6 +197,7 @@ fits_told c done rest whole link r f a = record {
   broken = f.broken;
   unbroken = f.unbroken;
   quiet = λ h. cc;
+  takes = f.takes;
 }
 
 live_or_not : {live : Bool} (arrived : Bool) → (arrived ≡ false → live ≡ false) → live ≡ true → arrived ≡ true

@@ -1,5 +1,5 @@
 -- Lemmas on what the acts of a net in memory tell.
-use Rattle.mem_net.proofs.Below.{◌≡◌, ℕ, ◌+◌, ◌-◌, ◌^◌, ◌<◌, ◌≤◌, List, [], ◌∷◌, ◌++◌, length, take, drop, min, max, Bool, true, false, Some, None, nat_lt, refl, sym, ◌∙◌, ap, arith, length-append, if◌then◌else◌, list_all, sum_by, fold, cases_eq, nat_tests, append-nil, fold_push, flat_map-append, is_rising, has_arrived, is_sound_after, is_number, LinkState, new_link, is_ready, SameTraffic, SameLinks, SameNet, Nexts, arrives_by, arrivals, passes_by, passes, MemNetState, passed_by, link_at, readies_left, net_state, LinkFollows, AllTold, FollowsSchedule, Skips, Act, NetEvent}
+use Rattle.mem_net.proofs.Below.{◌≡◌, ℕ, ◌+◌, ◌-◌, ◌^◌, ◌<◌, ◌≤◌, List, [], ◌∷◌, ◌++◌, length, take, drop, min, max, Bool, true, false, Some, None, nat_lt, refl, sym, ◌∙◌, ap, arith, length-append, if◌then◌else◌, list_all, sum_by, fold, cases_eq, nat_tests, append-nil, fold_push, flat_map-append, is_rising, has_arrived, is_sound_after, is_number, LinkState, new_link, is_ready, SameTraffic, SameLinks, SameNet, Nexts, arrives_by, arrivals, passes_by, passes, MemNetState, passed_by, link_at, readies_left, net_state, LinkFollows, AllTold, FollowsSchedule, Skips, Act, NetEvent, Option, arrives}
 use Rattle.link_trait.specs.declared.act.Act.TheVariants as act
 use Rattle.link_trait.specs.declared.net.NetEvent.TheVariants as event
 use Rattle.mem_net.proofs.Schedules.{sound_at, below}
@@ -77,8 +77,8 @@ pub record Quiet (old new : MemNetState) : Type 0 where
   pub port : new.port ≡ old.port
 
 pub skips : (one : Act) (c i : ℕ) (old new : MemNetState) (link : LinkState) → IsNext one old new → Moves c i old new link → Alike (link_at old c) link → Quiet old new
-    → passes_by one ≡ [] → arrives_by one ≡ [] → link.live ≡ (link_at old c).live → link.due ≡ (link_at old c).due → Skips (net_state old) (net_state new)
-skips one c i old new link n m a q p r live d =
+    → passes_by one ≡ [] → arrives_by one ≡ [] → link.live ≡ (link_at old c).live → link.due ≡ (link_at old c).due → link.writable ≡ (link_at old c).writable → Skips (net_state old) (net_state new)
+skips one c i old new link n m a q p r live d w =
     let sum = moved_sum c i old new link m in
     let left = a.left in
     let room = less_room one old new n (omega arith) in
@@ -90,7 +90,7 @@ skips one c i old new link n m a q p r live d =
         live = moved_same (λ l. l.live) c i old new link m live;
         named = same_named one old new n r;
         due = moved_same (λ l. l.due) c i old new link m d;
-        writable = λ other. refl;
+        writable = moved_same (λ l. l.writable) c i old new link m w;
       };
       room = omega arith;
       port = q.port;
@@ -98,8 +98,8 @@ skips one c i old new link n m a q p r live d =
     }
 
 pub readies : (one : Act) (conn i : ℕ) (old new : MemNetState) (link : LinkState) → IsNext one old new → Moves conn i old new link → Alike (link_at old conn) link → Quiet old new
-    → passes_by one ≡ [] → arrives_by one ≡ [] → link.live ≡ (link_at old conn).live → (link_at old conn).live ≡ true → link.due ≡ true → new.rested ≡ false → Nexts (event.Readable (record { 0 = conn })) (net_state old) (net_state new)
-readies one conn i old new link n m a q p r same live due rest =
+    → passes_by one ≡ [] → arrives_by one ≡ [] → link.live ≡ (link_at old conn).live → (link_at old conn).live ≡ true → link.due ≡ true → link.writable ≡ (link_at old conn).writable → new.rested ≡ false → Nexts (event.Readable (record { 0 = conn })) (net_state old) (net_state new)
+readies one conn i old new link n m a q p r same live due writable rest =
     let sum = moved_sum conn i old new link m in
     let left = a.left in
     record {
@@ -116,7 +116,33 @@ readies one conn i old new link n m a q p r same live due rest =
         due_elsewhere = moved_but (λ l. l.due) conn i old new link m;
         live = moved_same (λ l. l.live) conn i old new link m same;
         named = same_named one old new n r;
-        writable = λ other. refl;
+        writable = moved_same (λ l. l.writable) conn i old new link m writable;
+        room = less_room one old new n (omega arith);
+      };
+      port = q.port;
+      faults = same_least old.faults new.faults q.faults;
+    }
+
+pub frees : (one : Act) (conn i : ℕ) (old new : MemNetState) (link : LinkState) → IsNext one old new → Moves conn i old new link → Alike (link_at old conn) link → Quiet old new
+    → passes_by one ≡ [] → arrives_by one ≡ [] → link.live ≡ (link_at old conn).live → (link_at old conn).live ≡ true → link.due ≡ (link_at old conn).due → link.writable ≡ true → new.rested ≡ false → Nexts (event.Writable (record { 0 = conn })) (net_state old) (net_state new)
+frees one conn i old new link n m a q p r same live due writable rest =
+    let sum = moved_sum conn i old new link m in
+    let left = a.left in
+    record {
+      net = same_net old new n.acts;
+      told = λ t. record {
+        traffic = same_traffic conn i old new link m a;
+        fresh = tt;
+        passed = quiet_passed one old new n p q.answers ∙ sym (nothing_passes (passed_by (take old.done old.acts) old.answers));
+        rested = rest;
+      };
+      event = record {
+        was = live;
+        writable = ap (λ l. l.writable) (moved_here conn i old new link m) ∙ writable;
+        writable_elsewhere = moved_but (λ l. l.writable) conn i old new link m;
+        live = moved_same (λ l. l.live) conn i old new link m same;
+        named = same_named one old new n r;
+        due = moved_same (λ l. l.due) conn i old new link m due;
         room = less_room one old new n (omega arith);
       };
       port = q.port;
@@ -141,7 +167,7 @@ unmoved_links old new a l n = record {
   live = λ d. ap (λ x. x.live) (unmoved old new a l d);
   named = n;
   due = λ d. ap (λ x. x.due) (unmoved old new a l d);
-  writable = λ d. refl;
+  writable = λ d. ap (λ x. x.writable) (unmoved old new a l d);
 }
 
 -- the greatest of numbers that rise
@@ -153,23 +179,23 @@ greatest (n ∷ ns) first c h a =
     greatest ns (max first n) c (omega arith) rest
 
 -- the number of an arrival is above those of all arrivals before
-arrival_rises : (conn : ℕ) (old new : MemNetState) → IsNext (act.Arrive (record { 0 = conn }) None) old new → fold max 0 (arrivals (take old.done old.acts)) < conn
-arrival_rises conn old new n =
-    let sound : is_sound_after (take old.done old.acts) (act.Arrive (record { 0 = conn }) None) ≡ true = sound_at old.acts old.done (act.Arrive (record { 0 = conn }) None) n.follows.sound n.at in
+arrival_rises : (conn : ℕ) (credit : Option ℕ) (old new : MemNetState) → IsNext (act.Arrive (record { 0 = conn }) credit) old new → fold max 0 (arrivals (take old.done old.acts)) < conn
+arrival_rises conn credit old new n =
+    let sound : is_sound_after (take old.done old.acts) (act.Arrive (record { 0 = conn }) credit) ≡ true = sound_at old.acts old.done (act.Arrive (record { 0 = conn }) credit) n.follows.sound n.at in
     let number : is_number conn ≡ true = grind arith in
     let positive : 0 < conn = grind (arith, nat_tests) in
     let rising : is_rising (take old.done old.acts) conn ≡ true = grind arith in
     greatest (arrivals (take old.done old.acts)) 0 conn positive (below (take old.done old.acts) conn ∙ rising)
 
-pub accepts : (conn i : ℕ) (old new : MemNetState) (link : LinkState) → IsNext (act.Arrive (record { 0 = conn }) None) old new → Moves conn i old new link
-    → link ≡ record (link_at old conn) { live = true } → link_at old conn ≡ new_link (link_at old conn).coming
+pub accepts : (conn i : ℕ) (credit : Option ℕ) (old new : MemNetState) (link : LinkState) → IsNext (act.Arrive (record { 0 = conn }) credit) old new → Moves conn i old new link
+    → link ≡ arrives credit (link_at old conn) → link_at old conn ≡ new_link (link_at old conn).coming
     → new.answers ≡ min (old.answers + 1) (2 ^ 64 - 1) → new.faults ≡ old.faults → new.port ≡ old.port → new.rested ≡ false
     → Nexts (event.Accept (record { 0 = conn })) (net_state old) (net_state new)
-accepts conn i old new link n m e quiet answers faults port rest =
-    let one = act.Arrive (record { 0 = conn }) None in
+accepts conn i credit old new link n m e quiet answers faults port rest =
+    let one = act.Arrive (record { 0 = conn }) credit in
     let passed = passing_passed one (event.Accept (record { 0 = conn })) old new n refl answers in
-    let here : link_at new conn ≡ record (link_at old conn) { live = true } = moved_here conn i old new link m ∙ e in
-    let rises : fold max 0 (arrivals (take old.done old.acts)) < conn = arrival_rises conn old new n in
+    let here : link_at new conn ≡ arrives credit (link_at old conn) = moved_here conn i old new link m ∙ e in
+    let rises : fold max 0 (arrivals (take old.done old.acts)) < conn = arrival_rises conn credit old new n in
     let arrived : arrivals (take new.done new.acts) ≡ arrivals (take old.done old.acts) ++ conn ∷ [] = ap arrivals (next_done one old new n) ∙ flat_map-append arrives_by (take old.done old.acts) (one ∷ []) in
     let named : fold max 0 (arrivals (take new.done new.acts)) ≡ max (fold max 0 (arrivals (take old.done old.acts))) conn = ap (fold max 0) arrived ∙ fold_push max 0 (arrivals (take old.done old.acts)) conn in
     let greatest : max (fold max 0 (arrivals (take old.done old.acts))) conn ≡ conn = omega arith in
@@ -201,10 +227,10 @@ accepts conn i old new link n m e quiet answers faults port rest =
         was = ap (λ l. l.live) quiet;
         live = ap (λ l. l.live) here;
         due = ap (λ l. l.due) here ∙ ap (λ l. l.due) quiet;
-        writable = refl;
+        writable = ap (λ l. l.writable) here ∙ ap (λ l. l.writable) quiet;
         live_elsewhere = moved_but (λ l. l.live) conn i old new link m;
         due_elsewhere = moved_but (λ l. l.due) conn i old new link m;
-        writable_elsewhere = λ other apart. refl;
+        writable_elsewhere = moved_but (λ l. l.writable) conn i old new link m;
         room = less_room one old new n (omega arith);
       };
       port = port;
@@ -275,7 +301,6 @@ followed one old new n links fits answers told =
       few = rw acts n.follows.few;
       done = omega arith;
       sound = rw n.acts n.follows.sound;
-      plain = rw n.acts n.follows.plain;
       links = links ∙ n.follows.links ∙ ap (λ l. length (arrivals l)) (sym n.acts);
       fits = fits;
       passed = omega arith;

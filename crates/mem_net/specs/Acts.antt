@@ -1,6 +1,7 @@
--- What the acts of a schedule send, end and pass.
-use Rattle.std.specs.Prelude.{ℕ, List, [], ◌∷◌, Option, Some, None, Bool, true, false, nat_eq, if◌then◌else◌}
-use Rattle.std.specs.List.{flat_map}
+-- What the acts of a schedule send, end, pass, and let links take.
+use Rattle.std.specs.Prelude.{◌+◌, ℕ, List, [], ◌∷◌, Option, Some, None, Bool, true, false, nat_eq, if◌then◌else◌}
+use Rattle.std.specs.List.{flat_map, fold, list_any}
+use Rattle.std.specs.Option.{option_map}
 use Rattle.link_trait.specs.declared.act.Act.{Act}
 use Rattle.link_trait.specs.declared.act.Act.TheVariants as act
 use Rattle.link_trait.specs.declared.net.NetEvent.{NetEvent}
@@ -39,6 +40,26 @@ abbrev pub finish_of : ℕ → List Act → Finish
 finish_of conn [] = finish.Later
 finish_of conn (act ∷ acts) = or_then (finish_by conn act) (finish_of conn acts)
 
+-- how many octets the link of conn takes in all after an act, by how many before it
+abbrev pub credit_by : ℕ → Option ℕ → Act → Option ℕ
+credit_by conn before (act.Arrive other credit) = if nat_eq other.0 conn then credit else before
+credit_by conn before (act.Room other more) = if nat_eq other.0 conn then option_map (λ octets. octets + more) before else before
+credit_by conn before _ = before
+
+-- how many octets the link of conn takes in all by these acts: its credit and all room that it got, or any number where there is
+-- none. A connection that has not arrived takes no octets
+abbrev pub credit_of : ℕ → List Act → Option ℕ
+credit_of conn acts = fold (credit_by conn) (Some 0) acts
+
+-- this act lets the writes of conn fail
+abbrev pub is_write_failure : ℕ → Act → Bool
+is_write_failure conn (act.WriteFails other) = nat_eq other.0 conn
+is_write_failure conn _ = false
+
+-- the writes of conn fail by these acts
+abbrev pub writes_fail : ℕ → List Act → Bool
+writes_fail conn acts = list_any (is_write_failure conn) acts
+
 -- the answers of `next` that acts pass
 abbrev pub passes_by : Act → List NetEvent
 passes_by (act.Arrive conn credit) = event.Accept conn ∷ []
@@ -56,7 +77,7 @@ event_of (act.Octets conn octets) = Some (event.Readable conn)
 event_of (act.End conn) = Some (event.Readable conn)
 event_of (act.ReadFails conn) = Some (event.Readable conn)
 event_of (act.Room conn more) = Some (event.Writable conn)
-event_of (act.WriteFails conn) = None
+event_of (act.WriteFails conn) = Some (event.Writable conn)
 event_of act.Tick = Some event.Tick
 event_of act.Turn = Some event.Turn
 

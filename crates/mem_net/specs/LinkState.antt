@@ -1,9 +1,14 @@
 -- What a connection of a net in memory holds.
-use Rattle.std.specs.Prelude.{◌≡◌, ◌<◌, ◌++◌, ◌&&◌, ◌||◌, not, ℕ, List, [], ◌∷◌, Bool, true, false, nat_lt, length, take, drop, min}
+use Rattle.std.specs.Prelude.{◌≡◌, ◌<◌, ◌+◌, ◌-◌, ◌^◌, ◌++◌, ◌&&◌, ◌||◌, not, ℕ, List, [], ◌∷◌, Option, Some, None, Bool, true, false, nat_lt, nat_le, length, take, drop, min}
+use Rattle.std.specs.Option.{option_map}
 use Rattle.mem_net.specs.declared.mem_link.Finish.{Finish}
 use Rattle.mem_net.specs.declared.mem_link.Finish.TheVariants as finish
+use Rattle.mem_net.specs.declared.mem_link.Change.{Change}
+use Rattle.mem_net.specs.declared.mem_link.Change.TheVariants as change
 use Rattle.link_trait.specs.declared.net.NetRead.{NetRead}
 use Rattle.link_trait.specs.declared.net.NetRead.TheVariants as read
+use Rattle.link_trait.specs.declared.net.NetWrote.{NetWrote}
+use Rattle.link_trait.specs.declared.net.NetWrote.TheVariants as wrote
 
 pub record LinkState : Type 0 where
   -- the octets that reads gave
@@ -24,6 +29,12 @@ pub record LinkState : Type 0 where
   pub ended : Bool
   -- a read or a write answered Failed
   pub broken : Bool
+  -- how many octets it takes in all, any number where there is none; the count stands still at 2 ^ 64 - 1
+  pub credit : Option ℕ
+  -- its writes fail by an act
+  pub failing : Bool
+  -- no write took fewer octets than it was offered, since Accept or Writable was told of it last
+  pub writable : Bool
   -- the octets that writes took
   pub taken : List ℕ
   -- for each write that took, the octets offered and the octets taken
@@ -41,13 +52,29 @@ new_link octets = record {
   due = false;
   ended = false;
   broken = false;
+  credit = Some 0;
+  failing = false;
+  writable = true;
   taken = [];
   writes = [];
 }
 
+-- a number of octets as a link counts it, which stands still at 2 ^ 64 - 1
+abbrev pub counted : Option ℕ → Option ℕ
+counted credit = option_map (λ octets. min octets (2 ^ 64 - 1)) credit
+
+-- a credit to which more is added
+abbrev pub gained : ℕ → Option ℕ → Option ℕ
+gained more credit = option_map (λ octets. min (octets + more) (2 ^ 64 - 1)) credit
+
+-- how many of len octets a link takes that took some before
+abbrev pub room_for : ℕ → Option ℕ → ℕ → ℕ
+room_for len None taken = len
+room_for len (Some credit) taken = min len (credit - taken)
+
 -- the link once its connection arrived
-abbrev pub arrives : LinkState → LinkState
-arrives link = record link { live = true }
+abbrev pub arrives : Option ℕ → LinkState → LinkState
+arrives credit link = record link { live = true; credit = counted credit }
 
 -- the link once so many of the octets that are coming have come: Readable is told where it is live
 abbrev pub comes : ℕ → LinkState → LinkState
@@ -66,13 +93,18 @@ is_finish finish.Failed = true
 abbrev pub is_ready : LinkState → Bool
 is_ready link = nat_lt 0 (length link.waiting) || (not link.answered && is_finish link.finish)
 
--- the link once it took these octets in one write
-abbrev pub takes : List ℕ → LinkState → LinkState
-takes octets link = record link { taken = link.taken ++ octets; writes = link.writes ++ (length octets, length octets) ∷ [] }
+-- the credit and the failing of a link once an act changed what it takes
+abbrev pub credit_changed : Change → Option ℕ → Option ℕ
+credit_changed (change.Gains more) credit = gained more credit
+credit_changed change.Fails credit = credit
 
--- the link once a write failed
-abbrev pub fails : LinkState → LinkState
-fails link = record link { broken = true }
+abbrev pub failing_changed : Change → Bool → Bool
+failing_changed (change.Gains more) failing = failing
+failing_changed change.Fails failing = true
+
+-- the link once an act changed what it takes: Writable is told where it is live
+abbrev pub changes : Change → LinkState → LinkState
+changes what link = record link { credit = credit_changed what link.credit; failing = failing_changed what link.failing; writable = link.writable || link.live }
 
 -- the link once it is shut
 abbrev pub shuts : LinkState → LinkState
@@ -93,6 +125,12 @@ LinkReads room (read.Octets n) old new = (0 < length old.waiting) × (n ≡ min 
 LinkReads room read.Later old new = (old.waiting ≡ []) × (old.finish ≡ finish.Later) × (new ≡ record old { due = false })
 LinkReads room read.End old new = (old.waiting ≡ []) × (old.finish ≡ finish.End) × (new ≡ record old { due = false; answered = true; ended = true })
 LinkReads room read.Failed old new = (old.waiting ≡ []) × (old.finish ≡ finish.Failed) × (new ≡ record old { due = false; answered = true; broken = true })
+
+-- the front of the octets is taken, as many as the credit leaves room for, but none where writes fail by an act
+abbrev pub LinkWrites : List ℕ → NetWrote → LinkState → LinkState → Type 0
+LinkWrites octets (wrote.Took n) old new = (old.failing ≡ false) × (n ≡ room_for (length octets) old.credit (length old.taken))
+    × (new ≡ record old { writable = old.writable && nat_le (length octets) n; taken = old.taken ++ take n octets; writes = old.writes ++ (length octets, n) ∷ [] })
+LinkWrites octets wrote.Failed old new = new ≡ record old { broken = true }
 
 -- the faults that an answer counts
 abbrev pub faults_in_answer : NetRead → ℕ

@@ -9,6 +9,8 @@ use Rattle.link_trait.specs.declared.act.Act.{Act}
 use Rattle.link_trait.specs.declared.act.Act.TheVariants as act
 use Rattle.link_trait.specs.declared.net.NetEvent.{NetEvent}
 use Rattle.link_trait.specs.declared.net.NetEvent.TheVariants as event
+use Rattle.mem_net.specs.declared.mem_link.Change.{Change}
+use Rattle.mem_net.specs.declared.mem_link.Change.TheVariants as change
 use Rattle.mem_net.specs.declared.mem_link.Finish.{Finish}
 use Rattle.mem_net.specs.declared.mem_link.Finish.TheVariants as finish
 
@@ -35,6 +37,16 @@ IsFinishing conn end _ = ⊥
 -- the act at a place does so
 abbrev pub FinishesAt : ℕ → Finish → List Act → ℕ → Type 0
 FinishesAt conn end acts place = (act : Act) × (slice_get acts place ≡ Some act) × IsFinishing conn end act
+
+-- this act changes what the link of conn takes so
+abbrev pub IsChanging : ℕ → Change → Act → Type 0
+IsChanging conn what (act.Room other more) = (other.0 ≡ conn) × (what ≡ change.Gains more)
+IsChanging conn what (act.WriteFails other) = (other.0 ≡ conn) × (what ≡ change.Fails)
+IsChanging conn what _ = ⊥
+
+-- the act at a place does so
+abbrev pub ChangesAt : ℕ → Change → List Act → ℕ → Type 0
+ChangesAt conn what acts place = (act : Act) × (slice_get acts place ≡ Some act) × IsChanging conn what act
 
 -- acts that are passed over leave the net as it was, but for the acts that are left
 pub record Skips (old new : NetState) : Type 0 where

@@ -1,5 +1,5 @@
 -- Which schedules are sound.
-use Rattle.std.specs.Prelude.{◌&&◌, ◌^◌, not, ℕ, List, [], ◌∷◌, ◌++◌, Bool, true, false, nat_eq, nat_lt, nat_le, length, is_none}
+use Rattle.std.specs.Prelude.{◌&&◌, ◌^◌, not, ℕ, List, [], ◌∷◌, ◌++◌, Bool, true, false, nat_eq, nat_lt, nat_le, length}
 use Rattle.std.specs.List.{list_all, list_any}
 use Rattle.link_trait.specs.declared.act.Act.{Act}
 use Rattle.link_trait.specs.declared.act.Act.TheVariants as act
@@ -60,10 +60,3 @@ are_sound_after before (act ∷ acts) = is_sound_after before act && are_sound_a
 -- once its octets have ended
 abbrev pub is_sound : List Act → Bool
 is_sound acts = are_sound_after [] acts
-
--- an act that a net in memory does as long as no write is short
-abbrev pub is_plain : Act → Bool
-is_plain (act.Arrive conn credit) = is_none credit
-is_plain (act.Room conn more) = false
-is_plain (act.WriteFails conn) = false
-is_plain _ = true

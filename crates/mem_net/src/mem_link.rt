@@ -1,8 +1,9 @@
 //! One connection of a net in memory.
 
 ghost use Rattle.std.specs.Prelude.{◌≡◌, min, take, length};
+ghost use Rattle.mem_net.specs.LinkState.{counted, gained, room_for};
 
-use link_trait::NetRead;
+use link_trait::{NetRead, NetWrote};
 use std::alloc::{AllocError, Global};
 use std::marker::Model;
 
@@ -15,7 +16,16 @@ pub(crate) enum Finish {
     Failed,
 }
 
-/// What the peer of a connection sends, how far it came and was read, and what the connection's link took.
+/// What an act changes of the writes of a connection.
+#[derive(Clone, Copy, Debug, PartialEq, Eq)]
+pub(crate) enum Change {
+    /// The link takes so many octets more.
+    Gains(u32),
+    /// Writes fail from now on.
+    Fails,
+}
+
+/// What the peer of a connection sends, how far it came and was read, and what the connection's link takes and took.
 #[derive(Drop)]
 pub(crate) struct MemLink {
     octets: Vec<u8>,
@@ -27,6 +37,9 @@ pub(crate) struct MemLink {
     due: bool,
     ended: bool,
     broken: bool,
+    credit: Option<u64>,
+    failing: bool,
+    writable: bool,
     taken: Vec<u8>,
     writes: Vec<(usize, usize)>,
 }
@@ -47,6 +60,9 @@ impl Model for MemLink {
       due = link.due;
       ended = link.ended;
       broken = link.broken;
+      credit = link.credit;
+      failing = link.failing;
+      writable = link.writable;
       taken = link.taken.items;
       writes = link.writes.items;
     } };
@@ -64,9 +80,36 @@ fn copy_front(room: &mut [u8], octets: &[u8]) -> usize
     count
 }
 
+/// The credit that an act gives to a link, as the link counts it.
+fn counted(credit: Option<u32>) -> Option<u64>
+    ensures { result ≡ counted credit }
+{
+    match credit {
+        None => None,
+        Some(octets) => Some(u64::from(octets)),
+    }
+}
+
+/// The credit of a link that gains so much.
+fn gain(credit: Option<u64>, more: u32) -> Option<u64>
+    ensures { result ≡ gained more credit }
+{
+    credit.map(|octets| octets.saturating_add(u64::from(more)))
+}
+
+/// How many of so many octets a link takes by its credit, once it took so many.
+fn room_for(len: usize, credit: Option<u64>, taken: usize) -> usize
+    ensures { result ≡ room_for len credit taken }
+{
+    match credit {
+        None => len,
+        Some(octets) => len.min(octets.saturating_sub(taken as u64) as usize),
+    }
+}
+
 impl MemLink {
-    ghost use Rattle.std.specs.Prelude.{◌≡◌, ◌≤◌, ◌<◌, ◌++◌, [], ◌∷◌, true, false, length, take, drop, OnOk, OnErr};
-    ghost use Rattle.mem_net.specs.LinkState.{new_link, is_ready, is_untold, arrives, comes, finishes, tells, takes, fails, shuts, LinkReads};
+    ghost use Rattle.std.specs.Prelude.{◌≡◌, ◌≤◌, ◌<◌, ◌^◌, ◌++◌, [], ◌∷◌, true, false, length, take, drop, OnOk, OnErr};
+    ghost use Rattle.mem_net.specs.LinkState.{new_link, is_ready, is_untold, arrives, comes, finishes, changes, tells, shuts, LinkReads, LinkWrites};
 
     /// A connection that has not come yet, and whose peer sends nothing.
     pub(crate) fn new(alloc: Global) -> MemLink
@@ -82,6 +125,9 @@ impl MemLink {
             due: false,
             ended: false,
             broken: false,
+            credit: Some(0),
+            failing: false,
+            writable: true,
             taken: Vec::new(alloc),
             writes: Vec::new(alloc),
         }
@@ -95,11 +141,12 @@ impl MemLink {
         self.octets.extend_from_slice(octets)
     }
 
-    /// The connection comes.
-    pub(crate) fn arrive(&mut self)
-        ensures { self.new ≡ arrives self.old }
+    /// The connection comes, and its link takes so many octets.
+    pub(crate) fn arrive(&mut self, credit: Option<u32>)
+        ensures { self.new ≡ arrives credit self.old }
     {
         self.live = true;
+        self.credit = counted(credit);
     }
 
     /// So many of the octets that are coming have come. Answers whether Readable is to be told.
@@ -121,6 +168,24 @@ impl MemLink {
         self.finish = finish;
         self.due = self.due | self.live;
         self.live
+    }
+
+    /// What it takes changes. Answers whether Writable is to be told.
+    pub(crate) fn change(&mut self, change: Change) -> bool
+        ensures tells { result ≡ self.old.live }
+        ensures changed { self.new ≡ changes change self.old }
+    {
+        self.writable = self.writable | self.live;
+        match change {
+            Change::Gains(more) => {
+                self.credit = gain(self.credit, more);
+                self.live
+            }
+            Change::Fails => {
+                self.failing = true;
+                self.live
+            }
+        }
     }
 
     /// Whether Accept was told of it and it was not shut.
@@ -180,27 +245,36 @@ impl MemLink {
         }
     }
 
-    /// Takes all of these octets. Answers false where there was too little memory: nothing was taken.
-    pub(crate) fn take(&mut self, octets: &[u8]) -> bool
-        ensures taken { result ≡ true → self.new ≡ takes octets.now self.old }
-        ensures unchanged { result ≡ false → self.new ≡ self.old }
+    /// Whether its writes fail by an act.
+    pub(crate) fn is_failing(&self) -> bool
+        ensures { result ≡ self.now.failing }
     {
-        let before = self.taken.len();
-        if self.taken.extend_from_slice(octets).is_err() {
-            return false;
-        }
-        if self.writes.push((octets.len(), octets.len())).is_err() {
-            self.taken.truncate(before);
-            return false;
-        }
-        true
+        self.failing
     }
 
-    /// A write failed.
-    pub(crate) fn fail(&mut self)
-        ensures { self.new ≡ fails self.old }
+    /// Takes the front of these octets, as many as its credit leaves room for. It fails where an act says so, or where there is too
+    /// little memory: nothing was taken.
+    pub(crate) fn write(&mut self, octets: &[u8]) -> NetWrote
+        ensures writes { LinkWrites octets.now result self.old self.new }
+        ensures few { length self.new.taken < 2 ^ 63 }
     {
-        self.broken = true;
+        if self.failing {
+            self.broken = true;
+            return NetWrote::Failed;
+        }
+        let before = self.taken.len();
+        let count = room_for(octets.len(), self.credit, before);
+        if self.taken.extend_from_slice(&octets[..count]).is_err() {
+            self.broken = true;
+            return NetWrote::Failed;
+        }
+        if self.writes.push((octets.len(), count)).is_err() {
+            self.taken.truncate(before);
+            self.broken = true;
+            return NetWrote::Failed;
+        }
+        self.writable = self.writable & (octets.len() <= count);
+        NetWrote::Took(count)
     }
 
     /// The connection is shut.

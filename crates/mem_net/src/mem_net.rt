@@ -9,7 +9,7 @@ ghost use Rattle.mem_net.specs.MemSteps.{Rises};
 ghost use Rattle.mem_net.specs.LinkState.{is_untold, faults_in_answer};
 
 use crate::Schedule;
-use crate::mem_link::{Finish, MemLink};
+use crate::mem_link::{Change, Finish, MemLink};
 use link_trait::{Act, Listening, Net, NetEvent, NetRead, NetWrote};
 use std::alloc::{AllocError, Global};
 use std::marker::Model;
@@ -17,11 +17,12 @@ use ws_kinds::Conn;
 
 /// A net in memory. It does the acts of a schedule in order, and then answers `Stop` at every call.
 ///
-/// - `Arrive` tells `Accept`; `Octets`, `End` and `ReadFails` tell `Readable`. Acts on a connection that is shut are passed
-///   over.
+/// - `Arrive` tells `Accept`; `Octets`, `End` and `ReadFails` tell `Readable`; `Room` and `WriteFails` tell `Writable`. Acts on a
+///   connection that is shut are passed over.
 /// - A read gives the octets that wait first; then `End` after an act `End`, `Failed` after `ReadFails`, and `Later`
 ///   otherwise. Where a read left something, `Readable` is told again before the next act is done.
-/// - A write takes all octets that it is offered. It fails for want of memory alone.
+/// - A link takes as many octets in all as `Arrive` and each `Room` let it, or any number where `Arrive` gave no credit. A write takes
+///   the front of what it is offered, as much as is left of that. It fails from `WriteFails` on, and for want of memory.
 #[derive(Drop)]
 pub struct MemNet {
     schedule: Schedule,
@@ -67,18 +68,16 @@ impl Model for MemNet {
 
 impl MemNet {
     ghost use Rattle.std.specs.Prelude.{◌≡◌, ◌<◌, Some, None, true, false, length, slice_get, IfSome, IfNone, IfOk};
-    ghost use Rattle.std.specs.List.{list_all};
-    ghost use Rattle.mem_net.specs.Schedule.{has_arrived, is_sound, is_plain};
+    ghost use Rattle.mem_net.specs.Schedule.{has_arrived, is_sound};
     ghost use Rattle.mem_net.specs.Acts.{arrivals};
     ghost use Rattle.mem_net.specs.MemNet.{net_state, start_net, FollowsSchedule, AllTold};
-    ghost use Rattle.mem_net.specs.MemSteps.{Does, SendsAt, FinishesAt, Repeats};
+    ghost use Rattle.mem_net.specs.MemSteps.{Does, SendsAt, FinishesAt, ChangesAt, Repeats};
     ghost use Rattle.link_trait.specs.Net.{Nexts};
 
-    /// A net that follows this schedule, which is sound, lets no link be short of room and no write fail.
-    /// It takes memory for all octets that the schedule sends. An error says that there was too little.
+    /// A net that follows this schedule, which is sound. It takes memory for all octets that the schedule sends. An error says that
+    /// there was too little.
     pub fn new(alloc: Global, schedule: Schedule) -> Result<MemNet, AllocError>
-        requires sound { is_sound schedule ≡ true }
-        requires plain { list_all is_plain schedule ≡ true }
+        requires { is_sound schedule ≡ true }
         ensures { IfOk result (λ net. net ≡ start_net schedule) }
     {
         let mut numbers = Vec::new(alloc);
@@ -100,7 +99,7 @@ impl MemNet {
         })
     }
 
-    /// Whether no write failed. It is false from the first one on for which there was too little memory.
+    /// Whether no write failed but by an act. It is false from the first one on for which there was too little memory.
     pub fn whole(&self) -> bool
         ensures value { result ≡ self.now.whole }
         ensures follows { FollowsSchedule self.now }
@@ -128,8 +127,8 @@ impl MemNet {
     }
 
     /// Does an act by which a connection arrives.
-    fn arrive(&mut self, conn: Conn) -> Option<NetEvent>
-        requires act { slice_get self.old.acts self.old.done ≡ Some (Act.Arrive conn None) }
+    fn arrive(&mut self, conn: Conn, credit: Option<u32>) -> Option<NetEvent>
+        requires act { slice_get self.old.acts self.old.done ≡ Some (Act.Arrive conn credit) }
         requires told { AllTold self.old }
         ensures { Does result self.old self.new }
     {
@@ -137,7 +136,7 @@ impl MemNet {
             unreachable!("it is among the acts");
         };
         let link = &mut self.links[place];
-        link.arrive();
+        link.arrive(credit);
         self.done += 1;
         self.answers = self.answers.saturating_add(1);
         self.rested = false;
@@ -184,6 +183,26 @@ impl MemNet {
         }
     }
 
+    /// Does an act that changes what the link of a connection takes.
+    fn change(&mut self, conn: Conn, change: Change) -> Option<NetEvent>
+        requires act { ChangesAt conn.0 change self.old.acts self.old.done }
+        requires told { AllTold self.old }
+        ensures { Does result self.old self.new }
+    {
+        let Some(place) = self.place(conn) else {
+            unreachable!("it is among the acts");
+        };
+        let link = &mut self.links[place];
+        let tells = link.change(change);
+        self.done += 1;
+        self.rested = false;
+        if tells {
+            Some(NetEvent::Writable(conn))
+        } else {
+            None
+        }
+    }
+
     /// Does an act Tick.
     fn tick(&mut self) -> Option<NetEvent>
         requires act { slice_get self.old.acts self.old.done ≡ Some Act.Tick }
@@ -223,9 +242,10 @@ impl MemNet {
         ensures { Does result self.old self.new }
     {
         match &self.schedule.acts()[self.done] {
-            Act::Arrive { conn, .. } => {
+            Act::Arrive { conn, credit } => {
                 let conn = *conn;
-                self.arrive(conn)
+                let credit = *credit;
+                self.arrive(conn, credit)
             }
             Act::Octets { conn, octets } => {
                 let conn = *conn;
@@ -240,11 +260,17 @@ impl MemNet {
                 let conn = *conn;
                 self.finish(conn, Finish::Failed)
             }
+            Act::Room { conn, more } => {
+                let conn = *conn;
+                let more = *more;
+                self.change(conn, Change::Gains(more))
+            }
+            Act::WriteFails(conn) => {
+                let conn = *conn;
+                self.change(conn, Change::Fails)
+            }
             Act::Tick => self.tick(),
             Act::Turn => self.turn(),
-            Act::Room { .. } | Act::WriteFails(_) => {
-                unreachable!("the schedule has no such act");
-            }
         }
     }
 
@@ -286,8 +312,8 @@ impl MemNet {
 impl Net for MemNet {
     ghost use Rattle.std.specs.Prelude.{◌≡◌, ◌≢◌, ◌<◌, ◌⊎◌, true, false, length};
     ghost use Rattle.mem_net.specs.LinkState.{LinkReads};
-    ghost use Rattle.link_trait.specs.Net.{Listens, Nexts, Reads, Writes, TakesAll, Shuts};
-    ghost use Rattle.mem_net.specs.MemNet.{net_state, link_at, AllTold, TellsInOrder};
+    ghost use Rattle.link_trait.specs.Net.{Listens, Nexts, Reads, Writes, Shuts};
+    ghost use Rattle.mem_net.specs.MemNet.{net_state, link_at, AllTold, TellsInOrder, TakesByActs};
 
     ghost state = { net_state };
 
@@ -342,26 +368,25 @@ impl Net for MemNet {
         answer
     }
 
-    /// Takes all of the octets. It fails where there is too little memory.
+    /// Takes the front of the octets, as many as the acts that were done leave room for. It fails where one of them says so, or where
+    /// there is too little memory.
     fn write(&mut self, conn: Conn, octets: &[u8]) -> NetWrote
         requires live { (net_state self.old).live conn.0 ≡ true }
         requires some { 0 < length octets.now }
         ensures writes { Writes conn.0 octets.now result (net_state self.old) (net_state self.new) }
-        ensures all { TakesAll (length octets.now) result }
-        ensures fails { result ≡ NetWrote.Failed → self.new.whole ≡ false }
-        ensures whole { result ≢ NetWrote.Failed → self.new.whole ≡ self.old.whole }
+        ensures takes { TakesByActs conn.0 (length octets.now) result self.old self.new }
     {
         let Some(place) = self.place(conn) else {
             unreachable!("it is live");
         };
         let link = &mut self.links[place];
-        if !link.take(octets) {
-            link.fail();
-            self.whole = false;
+        let NetWrote::Took(count) = link.write(octets) else {
+            let by_act = link.is_failing();
+            self.whole = self.whole & by_act;
             self.faults = self.faults.saturating_add(1);
             return NetWrote::Failed;
-        }
-        NetWrote::Took(octets.len())
+        };
+        NetWrote::Took(count)
     }
 
     fn shut(&mut self, conn: Conn)

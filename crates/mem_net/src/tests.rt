@@ -1,11 +1,9 @@
 //! A net in memory, stepped by hand, and the schedules that it follows.
 
-ghost use Rattle.std.specs.Prelude.{◌≡◌, ◌≢◌, ◌<◌, ◌≤◌, ◌++◌, ℕ, true, false, length};
-ghost use Rattle.std.specs.List.{list_all};
+ghost use Rattle.std.specs.Prelude.{◌≡◌, ◌≢◌, ◌<◌, ◌≤◌, ◌++◌, ℕ, true, length, take, IfSome, IfNone};
 ghost use Rattle.ws_kinds.specs.NoteValue.{took};
 ghost use Rattle.ws_kinds.specs.Watch.{IsNoted};
 ghost use Rattle.link_trait.specs.Link.{Rose};
-ghost use Rattle.mem_net.specs.Schedule as spec;
 ghost use Rattle.mem_net.specs.Acts as acts;
 
 use crate::*;
@@ -22,6 +20,7 @@ const TWO: Conn = Conn(2);
 #[derive(Clone, Copy)]
 enum Step {
     Arrive(u64),
+    ArriveWith(u64, u32),
     Octets(u64, &'static [u8]),
     End(u64),
     ReadFails(u64),
@@ -42,8 +41,8 @@ enum Then {
 /// What is done, what came next, and what one read of at most 4 octets gave.
 type Told = (Then, NetEvent, Option<NetRead>, [u8; 4]);
 
-use NetEvent::{Accept, Readable, Stop};
-use Step::{Arrive, End, Octets, ReadFails, Room, Tick, Turn, WriteFails};
+use NetEvent::{Accept, Readable, Stop, Writable};
+use Step::{Arrive, ArriveWith, End, Octets, ReadFails, Room, Tick, Turn, WriteFails};
 use Then::{Read, ReadAndShut, Wait};
 
 /// Schedules, and what a net tells that follows them.
@@ -139,6 +138,98 @@ const RUNS: &[(&[Step], &[Told])] = &[
     ),
 ];
 
+/// What comes next, what is then offered to its connection, what is answered, and whether the connection is shut after it.
+type Offer = (NetEvent, &'static [u8], Option<NetWrote>, bool);
+
+use NetWrote::Took;
+
+/// Schedules, what is offered to their links, and what the first link took in the end.
+const OFFERS: &[(&[Step], &[Offer], &[u8])] = &[
+    // a link without a limit, which room does not change
+    (
+        &[Arrive(1), Room(1, 1)],
+        &[
+            (Accept(ONE), b"ab", Some(Took(2)), false),
+            (Writable(ONE), b"cde", Some(Took(3)), false),
+            (Stop, b"", None, false),
+        ],
+        b"abcde",
+    ),
+    // a link takes nothing until it has room, and then so much
+    (
+        &[ArriveWith(1, 0), Room(1, 2), Room(1, 4_294_967_295)],
+        &[
+            (Accept(ONE), b"ab", Some(Took(0)), false),
+            (Writable(ONE), b"abc", Some(Took(2)), false),
+            (Writable(ONE), b"cde", Some(Took(3)), false),
+            (Stop, b"", None, false),
+        ],
+        b"abcde",
+    ),
+    // room adds to what is left
+    (
+        &[ArriveWith(1, 2), Room(1, 1), Tick],
+        &[
+            (Accept(ONE), b"a", Some(Took(1)), false),
+            (Writable(ONE), b"bcd", Some(Took(2)), false),
+            (NetEvent::Tick, b"", None, false),
+            (Stop, b"", None, false),
+        ],
+        b"abc",
+    ),
+    // the sum has more than 32 bits
+    (
+        &[
+            ArriveWith(1, 4_294_967_295),
+            Room(1, 1),
+            Room(1, 4_294_967_295),
+        ],
+        &[
+            (Accept(ONE), b"ab", Some(Took(2)), false),
+            (Writable(ONE), b"cd", Some(Took(2)), false),
+            (Writable(ONE), b"ef", Some(Took(2)), false),
+            (Stop, b"", None, false),
+        ],
+        b"abcdef",
+    ),
+    // acts on a connection that is shut are passed over
+    (
+        &[
+            ArriveWith(1, 1),
+            Arrive(2),
+            Room(1, 5),
+            WriteFails(1),
+            Room(2, 1),
+        ],
+        &[
+            (Accept(ONE), b"ab", Some(Took(1)), true),
+            (Accept(TWO), b"c", Some(Took(1)), false),
+            (Writable(TWO), b"d", Some(Took(1)), false),
+            (Stop, b"", None, false),
+        ],
+        b"a",
+    ),
+    // writes fail from an act on, whatever room there is, and those of no other connection
+    (
+        &[
+            ArriveWith(1, 3),
+            Arrive(2),
+            WriteFails(1),
+            Room(1, 9),
+            Room(2, 1),
+        ],
+        &[
+            (Accept(ONE), b"ab", Some(Took(2)), false),
+            (Accept(TWO), b"", None, false),
+            (Writable(ONE), b"c", Some(NetWrote::Failed), false),
+            (Writable(ONE), b"c", Some(NetWrote::Failed), false),
+            (Writable(TWO), b"d", Some(Took(1)), false),
+            (Stop, b"", None, false),
+        ],
+        b"ab",
+    ),
+];
+
 /// Schedules, and whether they are sound.
 const SCHEDULES: &[(&[Step], bool)] = &[
     // connections arrive with rising numbers
@@ -181,6 +272,10 @@ fn act_of(alloc: Global, step: Step) -> Result<Act, Fail> {
             conn: Conn(conn),
             credit: None,
         },
+        ArriveWith(conn, credit) => Act::Arrive {
+            conn: Conn(conn),
+            credit: Some(credit),
+        },
         Octets(conn, octets) => Act::Octets {
             conn: Conn(conn),
             octets: Bytes::of(alloc, octets).ok().ok_or("memory")?,
@@ -206,25 +301,9 @@ fn schedule_of(alloc: Global, steps: &[Step]) -> Result<Schedule, Fail> {
     Ok(schedule)
 }
 
-fn is_plain(act: &Act) -> bool
-    ensures { result ≡ spec.is_plain act.now }
-{
-    match act {
-        Act::Arrive { credit, .. } => credit.is_none(),
-        Act::Room { .. } | Act::WriteFails(_) => false,
-        _ => true,
-    }
-}
-
-fn are_plain(acts: &[Act]) -> bool
-    ensures { result ≡ list_all spec.is_plain acts.now }
-{
-    acts.iter().all(|act| is_plain(act))
-}
-
 fn follow(alloc: Global, steps: &[Step]) -> Result<MemNet, Fail> {
     let schedule = schedule_of(alloc, steps)?;
-    if !schedule.sound() || !are_plain(schedule.acts()) {
+    if !schedule.sound() {
         return Err(Fail::new("the schedule"));
     }
     Ok(MemNet::new(alloc, schedule).ok().ok_or("memory")?)
@@ -289,8 +368,8 @@ fn event_of(act: &Act) -> Option<NetEvent>
         Act::Octets { conn, .. } => Some(Readable(*conn)),
         Act::End(conn) => Some(Readable(*conn)),
         Act::ReadFails(conn) => Some(Readable(*conn)),
-        Act::Room { conn, .. } => Some(NetEvent::Writable(*conn)),
-        Act::WriteFails(_) => None,
+        Act::Room { conn, .. } => Some(Writable(*conn)),
+        Act::WriteFails(conn) => Some(Writable(*conn)),
         Act::Tick => Some(NetEvent::Tick),
         Act::Turn => Some(NetEvent::Turn),
     }
@@ -314,8 +393,10 @@ const TOLD: &[Step] = &[
     Tick,
     Arrive(2),
     Octets(2, b"c"),
+    Room(1, 1),
     End(1),
     ReadFails(2),
+    WriteFails(2),
     Turn,
 ];
 
@@ -329,16 +410,16 @@ fn acts_are_told_in_order(rt: HostRuntime) -> Result<(), Fail> {
 
 /// Sends octets to a live connection, and notes what was taken. All that is said of it follows from what every net and every
 /// watch owes.
-fn send<N: Net, W: Watch>(out: &mut Outside<N, W>, to: Conn, octets: &[u8]) -> bool
+fn send<N: Net, W: Watch>(out: &mut Outside<N, W>, to: Conn, octets: &[u8]) -> Option<usize>
     requires live { (N.state out.old.net).live to.0 ≡ true }
     requires some { 0 < length octets.now }
     ensures live { (N.state out.new.net).live to.0 ≡ true }
-    ensures taken { result ≡ true → (N.state out.old.net).tells ≡ true → (N.state out.new.net).taken to.0 ≡ (N.state out.old.net).taken to.0 ++ octets.now }
+    ensures taken { IfSome result (λ count. (N.state out.old.net).tells ≡ true → (N.state out.new.net).taken to.0 ≡ (N.state out.old.net).taken to.0 ++ take count octets.now) }
     ensures others { (N.state out.old.net).tells ≡ true → (other : ℕ) → other ≢ to.0 → (N.state out.new.net).taken other ≡ (N.state out.old.net).taken other }
-    ensures noted { result ≡ true → IsNoted (W.told out.old.watch) (took to.0 (length octets.now) (length octets.now)) (W.told out.new.watch) }
-    ensures unnoted { result ≡ false → W.told out.new.watch ≡ W.told out.old.watch }
+    ensures noted { IfSome result (λ count. IsNoted (W.told out.old.watch) (took to.0 (length octets.now) count) (W.told out.new.watch)) }
+    ensures unnoted { IfNone result (W.told out.new.watch ≡ W.told out.old.watch) }
     ensures faults { (N.state out.old.net).faults ≤ (N.state out.new.net).faults }
-    ensures cause { result ≡ false → Rose (N.state out.old.net).faults (N.state out.new.net).faults }
+    ensures cause { IfNone result (Rose (N.state out.old.net).faults (N.state out.new.net).faults) }
 {
     match out.net.write(to, octets) {
         NetWrote::Took(count) => {
@@ -347,42 +428,98 @@ fn send<N: Net, W: Watch>(out: &mut Outside<N, W>, to: Conn, octets: &[u8]) -> b
                 offered: octets.len() as u64,
                 took: count as u64,
             });
-            true
+            Some(count)
         }
-        NetWrote::Failed => false,
+        NetWrote::Failed => None,
     }
 }
 
-/// Whether the connection that comes next takes both pieces.
-fn send_to_the_next<N: Net, W: Watch>(out: &mut Outside<N, W>) -> bool {
+/// How much the connection that comes next takes of both pieces.
+fn send_to_the_next<N: Net, W: Watch>(out: &mut Outside<N, W>) -> Option<(usize, usize)> {
     let Accept(conn) = out.net.next() else {
-        return false;
+        return None;
     };
-    send(out, conn, b"Hel") && send(out, conn, b"lo")
+    let first = send(out, conn, b"Hel")?;
+    let second = send(out, conn, b"lo")?;
+    Some((first, second))
 }
 
 #[test]
-fn writes_are_taken_whole(rt: HostRuntime) -> Result<(), Fail> {
+fn what_is_taken_is_noted(rt: HostRuntime) -> Result<(), Fail> {
     let mut out = Outside {
-        net: follow(rt.alloc(), &[Arrive(2)])?,
+        net: follow(rt.alloc(), &[ArriveWith(2, 4)])?,
         watch: Recorder::new(rt.alloc()),
         tally: Tally::new(),
     };
-    assert!(rt; send_to_the_next(&mut out));
-    assert_eq!(rt; out.net.taken(TWO), b"Hello".as_slice());
+    assert_eq!(rt; send_to_the_next(&mut out), Some((3, 1)));
+    assert_eq!(rt; out.net.taken(TWO), b"Hell".as_slice());
     assert_eq!(rt; out.net.taken(ONE), b"".as_slice());
     assert!(rt; out.net.whole());
     assert_eq!(rt; out.watch.count(), 2);
-    for (place, octets) in [3, 2].iter().enumerate() {
+    for (place, (offered, took)) in [(3, 3), (2, 1)].iter().enumerate() {
         let took = Note::Took {
             conn: TWO,
-            offered: *octets,
-            took: *octets,
+            offered: *offered,
+            took: *took,
         };
         if place < out.watch.count() {
             assert_eq!(rt; out.watch.at(place), took);
         }
     }
+    Ok(())
+}
+
+/// Offers octets to a live connection, if there are any, and then shuts it, if that is asked.
+fn offer<N: Net>(net: &mut N, conn: Conn, octets: &[u8], shuts: bool) -> Option<NetWrote>
+    requires { (N.state net.old).live conn.0 ≡ true }
+{
+    if octets.is_empty() {
+        return None;
+    }
+    let answer = net.write(conn, octets);
+    if shuts {
+        net.shut(conn);
+    }
+    Some(answer)
+}
+
+/// What comes next, and what its connection answers to these octets.
+fn answered<N: Net>(net: &mut N, octets: &[u8], shuts: bool) -> (NetEvent, Option<NetWrote>) {
+    match net.next() {
+        Accept(conn) => (Accept(conn), offer(net, conn, octets, shuts)),
+        Writable(conn) => (Writable(conn), offer(net, conn, octets, shuts)),
+        event => (event, None),
+    }
+}
+
+/// The place of the first row that a net answers otherwise.
+fn answered_otherwise<N: Net>(net: &mut N, rows: &[Offer]) -> Option<usize> {
+    for (place, (event, octets, answer, shuts)) in rows.iter().enumerate() {
+        if answered(net, octets, *shuts) != (*event, *answer) {
+            return Some(place);
+        }
+    }
+    None
+}
+
+/// The place of the first schedule whose links take otherwise, and of the first row that is answered otherwise, if one is.
+fn other_offer(
+    alloc: Global,
+    offers: &[(&[Step], &[Offer], &[u8])],
+) -> Result<Option<(usize, Option<usize>)>, Fail> {
+    for (place, (steps, rows, taken)) in offers.iter().enumerate() {
+        let mut net = follow(alloc, steps)?;
+        let row = answered_otherwise(&mut net, rows);
+        if row.is_some() || net.taken(ONE) != *taken || !net.whole() {
+            return Ok(Some((place, row)));
+        }
+    }
+    Ok(None)
+}
+
+#[test]
+fn links_take_what_acts_let_them(rt: HostRuntime) -> Result<(), Fail> {
+    assert_eq!(rt; other_offer(rt.alloc(), OFFERS)?, None);
     Ok(())
 }
 

@@ -18,8 +18,8 @@ use ws_kinds::Conn;
 /// and thrown away until the peer ends too, for at most two ticks, 1,048,576 octets and 256 connections at a time, of which the
 /// oldest goes first. Only then is its socket closed.
 ///
-/// As long as a net has to take all that it is offered, a write of which the socket takes a part is a fault: the caller has to shut the
-/// connection, whose peer may have got that part.
+/// A write takes what the socket has room for, which may be nothing. Where that is less than it was offered, `Writable` is told once the
+/// socket takes octets again.
 #[derive(Drop)]
 pub struct LiveNet<R: net::Net + Clock + Drop> {
     runtime: R,

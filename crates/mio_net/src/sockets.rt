@@ -2,7 +2,7 @@
 
 ghost use Rattle.std.specs.Prelude.{ℕ, ◌≡◌, ◌+◌, ◌<◌, ◌≤◌, Some, true, false, length};
 ghost use Rattle.link_trait.specs.declared.net.NetEvent.TheVariants as event;
-ghost use Rattle.link_trait.specs.Net.{CountsFault, Listens, Nexts, Reads, Writes, TakesAll, Shuts};
+ghost use Rattle.link_trait.specs.Net.{CountsFault, Listens, Nexts, Reads, Writes, Shuts};
 ghost use Rattle.mio_net.specs.Table.{is_live};
 
 use crate::lingering::Lingering;
@@ -95,7 +95,7 @@ fn poll_once(poll: &mut Option<Poll>, reports: &mut Events, patience: Duration) 
 }
 
 impl Sockets {
-    ghost use Rattle.mio_net.specs.State.{state_of, MayTell, KeepsWritable};
+    ghost use Rattle.mio_net.specs.State.{state_of, MayTell};
 
     pub(crate) fn new(alloc: Global, now: Option<Instant>) -> Result<Sockets, AllocError> {
         Ok(Sockets {
@@ -333,15 +333,12 @@ impl Sockets {
         }
     }
 
-    /// Writes once. A net has to take all that it is offered, so a write that was short is a fault.
     pub(crate) fn write(&mut self, conn: Conn, octets: &[u8]) -> NetWrote
-        ensures writes { Writes conn.0 octets.now result (state_of self.old) (state_of self.new) }
-        ensures all { TakesAll (length octets.now) result }
-        ensures whole { KeepsWritable conn.0 result self.old self.new }
+        ensures { Writes conn.0 octets.now result (state_of self.old) (state_of self.new) }
     {
         match write_peer(&self.poll, &mut self.peers, conn, octets) {
-            Ok(count) if count == octets.len() => NetWrote::Took(count),
-            _ => {
+            Ok(count) => NetWrote::Took(count),
+            Err(_) => {
                 count_fault(&mut self.faults);
                 NetWrote::Failed
             }

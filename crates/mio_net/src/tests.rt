@@ -11,7 +11,9 @@ use ws_kinds::Conn;
 const PATIENCE: usize = 200;
 
 /// The next connection that is accepted.
-fn next_accepted<N: Net>(net: &mut N) -> Option<Conn> {
+fn next_accepted<N: Net>(net: &mut N) -> Option<Conn>
+    ensures { IfSome result (λ conn. (N.state net.new).live conn.0 ≡ true) }
+{
     for _ in 0..PATIENCE {
         if let NetEvent::Accept(conn) = net.next() {
             return Some(conn);
@@ -48,6 +50,32 @@ fn answer_and_shut<N: Net>(net: &mut N, answer: &[u8]) -> Option<NetWrote>
     let wrote = net.write(conn, answer);
     net.shut(conn);
     Some(wrote)
+}
+
+/// Writes to the next connection that is accepted, and answers how much of that it took.
+fn fill_next<N: Net>(net: &mut N, octets: &[u8]) -> Option<(Conn, usize)>
+    requires { 0 < length octets.now }
+{
+    let conn = next_accepted(net)?;
+    match net.write(conn, octets) {
+        NetWrote::Took(count) => Some((conn, count)),
+        NetWrote::Failed => None,
+    }
+}
+
+/// Writes to the next connection that takes octets again, and answers how much of that it took.
+fn go_on_writing<N: Net>(net: &mut N, octets: &[u8]) -> Option<(Conn, usize)>
+    requires { 0 < length octets.now }
+{
+    for _ in 0..PATIENCE {
+        if let NetEvent::Writable(conn) = net.next() {
+            return match net.write(conn, octets) {
+                NetWrote::Took(count) => Some((conn, count)),
+                NetWrote::Failed => None,
+            };
+        }
+    }
+    None
 }
 
 /// Passes all events over up to a tick, and answers whether one came.
@@ -90,5 +118,31 @@ fn peers_are_read_and_get_what_was_written_before_the_shut(rt: HostRuntime) -> R
     peer.read_exact(&mut answer)?;
     assert_eq!(rt; &answer, b"bye");
     assert_eq!(rt; peer.read(&mut answer)?, 0);
+    Ok(())
+}
+
+/// How much is offered to a peer that reads late: more than its socket takes at once.
+fn too_much() -> usize {
+    16_777_216
+}
+
+/// A peer that reads late takes a part of what it is sent, and more once it read that part.
+#[test]
+fn a_peer_that_reads_late_is_told_as_writable(rt: HostRuntime) -> Result<(), Fail> {
+    let port = TcpListener::bind(&rt, "127.0.0.1:0")?.local_addr()?.port();
+    let mut net = LiveNet::new(rt, rt.alloc())?;
+    assert!(rt; net.listen(port) == Listening::Ready);
+    let mut peer = TcpStream::connect(&rt, ("127.0.0.1", port))?;
+    let most = too_much();
+    let octets = b"a".repeat(rt.alloc(), most)?;
+    assert!(rt; !octets.is_empty());
+    let (conn, count) = fill_next(&mut net, &octets).ok_or("no connection")?;
+    assert!(rt; conn == Conn(1) && count < most);
+    let mut came = b"b".repeat(rt.alloc(), count)?;
+    peer.read_exact(&mut came)?;
+    assert!(rt; go_on_writing(&mut net, b"bye") == Some((Conn(1), 3)));
+    let mut last = [0u8; 3];
+    peer.read_exact(&mut last)?;
+    assert_eq!(rt; &last, b"bye");
     Ok(())
 }

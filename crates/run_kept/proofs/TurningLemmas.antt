@@ -1,5 +1,5 @@
 -- What a server keeps while it starts, while connections are turned away, and while time goes by and turns end.
-use Rattle.run_kept.proofs.Below.{◌≡◌, ◌<◌, ◌^◌, ◌-◌, ℕ, List, [], ◌∷◌, ◌++◌, Some, None, Bool, true, false, cond, ◌&&◌, length, refl, sym, ap, ◌∙◌, subst, list_all, Conn, ConfigValue, NoteValue, NetState, Nexts, Shuts, SameTraffic, is_rest, NetEvent, RouteTable, gather, has_number, accepted_by, is_accepted, world, phase, heard, last_frame, Follows, Mark, marks_by, marks_of, arrival, tick, turn, list_all-append, ordered_none, HubState, Server, Entry, server, has_entry, taken_of, nothing, AreNoted, is_outgoing, Appends, clash, IsTable, table_of, Arrives, Makes, Busy, Memory, EndsTurn, finishes, Agrees, is_quiet, agrees_net, agrees_aside, told_is, agrees_quiet, agrees_last, agrees_first, FollowsBut, is_unread, follows_none, none_but, gathers_none, call_marked, next_but, next_unmarked, shut_follows, aside_but, busy_follows, no_room_follows, all_follow, proceeds_follows, IntakeView, HearsAt, RestsAt, Kept, is_passing}
+use Rattle.run_kept.proofs.Below.{◌≡◌, ◌<◌, ◌^◌, ◌-◌, ℕ, List, [], ◌∷◌, ◌++◌, Some, None, Bool, true, false, cond, ◌&&◌, length, refl, sym, ap, ◌∙◌, subst, list_all, Conn, ConfigValue, NoteValue, NetState, Nexts, Shuts, SameTraffic, is_rest, NetEvent, RouteTable, gather, has_number, accepted_by, is_accepted, world, phase, heard, last_frame, Follows, Mark, marks_by, marks_of, arrival, tick, turn, ordered_none, HubState, Server, Entry, server, has_entry, taken_of, nothing, AreNoted, is_outgoing, Appends, clash, IsTable, table_of, Arrives, Makes, Busy, Memory, EndsTurn, finishes, Agrees, is_quiet, agrees_net, agrees_aside, told_is, agrees_quiet, agrees_last, agrees_first, FollowsBut, is_unread, follows_none, none_but, gathers_none, call_marked, next_but, next_unmarked, shut_follows, aside_but, busy_follows, no_room_follows, all_follow, proceeds_follows, IntakeView, HearsAt, RestsAt, Kept, is_passing, Proceeds, append-nil, gather-append, Offers, but_none, all_then}
 use Rattle.ws_kinds.specs.NoteValue as note
 use Rattle.link_trait.specs.declared.net.NetEvent.TheVariants as event
 use Rattle.run_meaning.specs.Server as run
@@ -30,6 +30,33 @@ kept_first r f t s now is entries pairs partings tells told passed start config 
 pub taken_same : (m n : NetState) (c : ℕ) → m.tells ≡ true → n.tells ≡ true → n.taken c ≡ m.taken c → taken_of n c ≡ taken_of m c
 taken_same m n c tm tn e =
     ap (λ (z : Bool). cond z (Some (n.taken c)) None) tn ∙ ap Some e ∙ sym (ap (λ (z : Bool). cond z (Some (m.taken c)) None) tm)
+
+-- ---- notes at the end of a call
+
+outgoing_passes : (n : NoteValue) → is_outgoing n ≡ true → is_passing n ≡ true
+outgoing_passes (note.took c offered took) e = refl
+outgoing_passes (note.dropped c index held) e = refl
+outgoing_passes (note.gone c left) e = refl
+outgoing_passes _ e = clash false refl e
+
+-- the last notes of a call, by which nothing is heard, read or sent, with the marks of the net that they answer
+record AreLast (last : List NoteValue) (marks : List Mark) : Type 0 where
+  passes : list_all is_passing last ≡ true
+  quiet : list_all is_quiet last ≡ true
+  unread : list_all is_unread last ≡ true
+  marked : gather marks_by last ≡ marks
+
+finishes_last : (cs : List ℕ) → AreLast (finishes cs) []
+finishes_last [] = record { passes = refl; quiet = refl; unread = refl; marked = refl }
+finishes_last (c ∷ cs) = let x = finishes_last cs in record { passes = x.passes; quiet = x.quiet; unread = x.unread; marked = x.marked }
+
+turn_last : (last : List NoteValue) → AreLast last [] → AreLast (last ++ note.turn ∷ []) (turn ∷ [])
+turn_last last x = record {
+  passes = all_then is_passing last (note.turn ∷ []) x.passes refl;
+  quiet = all_then is_quiet last (note.turn ∷ []) x.quiet refl;
+  unread = all_then is_unread last (note.turn ∷ []) x.unread refl;
+  marked = gather-append marks_by last (note.turn ∷ []) ∙ ap (λ (z : List Mark). z ++ turn ∷ []) x.marked;
+}
 
 module _ {S : Type 0} (r : run.Server S) (f : ConfigValue) (t : RouteTable) (ns : List NoteValue) (a : Server) (now : S) (is : ℕ → IntakeView) (k : Kept r f t ns a now is None) where
   -- the net is another one, through which nothing passed
@@ -120,52 +147,30 @@ module _ {S : Type 0} (r : run.Server S) (f : ConfigValue) (t : RouteTable) (ns 
       (ap (λ (z : HubState). z.config) hub) (λ c. ap (λ (z : NetState). z.given c) same ∙ traffic.given c)
       (λ c there. ap (λ (z : HubState). has_entry z.entries c) (sym hub) ∙ there)
 
-  -- ---- a turn ends
+  -- ---- a turn ends, or what is held is offered
 
-  pub kept_turn : (net : NetState) (b : Server) (after : List NoteValue) (ends : EndsTurn (server a.hub net a.told) b) → net.tells ≡ true → SameTraffic a.net net → FollowsBut (turn ∷ []) ns net
-      → Appends nothing (server a.hub net a.told) b → b.told ≡ Some after → IsTable (table_of a.hub) → IsTable (table_of b.hub)
-      → (after ≡ ns ++ (ends.proceeds.sending ++ (finishes ends.finished ++ note.turn ∷ []))) × Kept r f t after b now is None
-  kept_turn net b after ends tells same follows app told was table =
-      let last = finishes ends.finished ++ note.turn ∷ [] in
-      let made = ends.proceeds.sending ++ last in
-      let passes : list_all is_passing made ≡ true =
-      list_all-append is_passing ends.proceeds.sending last ∙ ap (λ (z : Bool). z && list_all is_passing last) (all_follow is_outgoing is_passing outgoing_passes ends.proceeds.sending ends.proceeds.outgoing) ∙ last_passes ends.finished in
+  -- the hub sends what it holds, and then makes these last notes, after a call of the net through which nothing passed
+  kept_last : (last : List NoteValue) (marks : List Mark) (net : NetState) (b : Server) (after : List NoteValue) (x : Proceeds [] last (server a.hub net a.told) b) → AreLast last marks
+      → net.tells ≡ true → SameTraffic a.net net → FollowsBut marks ns net → Appends nothing (server a.hub net a.told) b → b.told ≡ Some after → IsTable (table_of a.hub) → IsTable (table_of b.hub)
+      → (after ≡ ns ++ (x.sending ++ last)) × Kept r f t after b now is None
+  kept_last last marks net b after x are tells same follows app told was table =
+      let made = x.sending ++ last in
+      let passes : list_all is_passing made ≡ true = all_then is_passing x.sending last (all_follow is_outgoing is_passing outgoing_passes x.sending x.outgoing) are.passes in
       let kept : Kept r f t (ns ++ made) b now is None =
       kept_passing r f t ns made a b now is k passes
-      (agrees_last r (world r ns) ns after last (server a.hub net a.told) b ends.proceeds (agrees_now net tells same) app told (last_quiet ends.finished))
-      (none_but (ns ++ made) b.net (proceeds_follows ns [] last (turn ∷ []) (turn ∷ []) [] (server a.hub net a.told) b tells (last_unread ends.finished) (last_marks ends.finished) refl ends.proceeds follows))
-      app.lines.config (λ c. (ends.proceeds.advances.net.told tells).given c ∙ same.given c)
-      (λ c there. entry_before c made (server a.hub net a.told) b ends.proceeds.advances (unaccepted made passes c) was table there) in
+      (agrees_last r (world r ns) ns after last (server a.hub net a.told) b x (agrees_now net tells same) app told are.quiet)
+      (none_but (ns ++ made) b.net (proceeds_follows ns [] last marks marks [] (server a.hub net a.told) b tells are.unread are.marked (sym (append-nil marks)) x follows))
+      app.lines.config (λ c. (x.advances.net.told tells).given c ∙ same.given c)
+      (λ c there. entry_before c made (server a.hub net a.told) b x.advances (unaccepted made passes c) was table there) in
       let is_after : after ≡ ns ++ made = same_told after (ns ++ made) b.told told kept.agrees.told in
       (is_after, subst (λ (z : List NoteValue). Kept r f t z b now is None) (sym is_after) kept)
-    where
-      outgoing_passes : (n : NoteValue) → is_outgoing n ≡ true → is_passing n ≡ true
-      outgoing_passes (note.took c offered took) e = refl
-      outgoing_passes (note.dropped c index held) e = refl
-      outgoing_passes (note.gone c left) e = refl
-      outgoing_passes _ e = clash false refl e
-
-      last_passes : (cs : List ℕ) → list_all is_passing (finishes cs ++ note.turn ∷ []) ≡ true
-      last_passes [] = refl
-      last_passes (c ∷ cs) = last_passes cs
-
-      last_quiet : (cs : List ℕ) → list_all is_quiet (finishes cs ++ note.turn ∷ []) ≡ true
-      last_quiet [] = refl
-      last_quiet (c ∷ cs) = last_quiet cs
-
-      last_unread : (cs : List ℕ) → list_all is_unread (finishes cs ++ note.turn ∷ []) ≡ true
-      last_unread [] = refl
-      last_unread (c ∷ cs) = last_unread cs
-
-      last_marks : (cs : List ℕ) → gather marks_by (finishes cs ++ note.turn ∷ []) ≡ turn ∷ []
-      last_marks [] = refl
-      last_marks (c ∷ cs) = last_marks cs
 
   pub kept_turned : (answer : NetEvent) (net : NetState) (b : Server) (after : List NoteValue) (ends : EndsTurn (server a.hub net a.told) b) → is_rest answer ≡ true → length a.net.passed < 2 ^ 64 - 1 → Nexts answer a.net net
       → Appends nothing (server a.hub net a.told) b → b.told ≡ Some after → IsTable (table_of a.hub) → IsTable (table_of b.hub)
       → (after ≡ ns ++ (ends.proceeds.sending ++ (finishes ends.finished ++ note.turn ∷ []))) × Kept r f t after b now is None
   kept_turned answer net b after ends rest few next app told was table =
-      kept_turn net b after ends (next.net.tells ∙ k.agrees.tells) (next.told k.agrees.tells).traffic
+      let last = finishes ends.finished in
+      kept_last (last ++ note.turn ∷ []) (turn ∷ []) net b after ends.proceeds (turn_last last (finishes_last ends.finished)) (next.net.tells ∙ k.agrees.tells) (next.told k.agrees.tells).traffic
       (subst (λ (z : List Mark). FollowsBut z ns net) (rest_marks answer rest) (next_but answer ns a.net net k.agrees.tells few next k.follows)) app told was table
     where
       rest_marks : (answer : NetEvent) → is_rest answer ≡ true → marks_of answer ≡ turn ∷ []
@@ -176,3 +181,11 @@ module _ {S : Type 0} (r : run.Server S) (f : ConfigValue) (t : RouteTable) (ns 
       rest_marks (event.Accept conn) e = clash false refl e
       rest_marks (event.Readable conn) e = clash false refl e
       rest_marks (event.Writable conn) e = clash false refl e
+
+  -- the net answered Writable, and what is held is offered
+  pub kept_offered : (conn : Conn) (net : NetState) (b : Server) (after : List NoteValue) (offers : Offers conn.0 (server a.hub net a.told) b) → Nexts (event.Writable conn) a.net net → b.told ≡ Some after → IsTable (table_of a.hub)
+      → (after ≡ ns ++ (offers.proceeds.sending ++ finishes offers.finished)) × Kept r f t after b now is None
+  kept_offered conn net b after offers next told was =
+      let writable = kept_writable conn net next in
+      kept_last (finishes offers.finished) [] net b after offers.proceeds (finishes_last offers.finished) writable.agrees.tells (next.told k.agrees.tells).traffic
+      (but_none ns net writable.follows) offers.appends told was offers.table

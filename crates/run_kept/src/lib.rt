@@ -17,4 +17,4 @@ pub use reading::{
     all_told, close_told, failure_told, frame_passed, given_some, head_refused, read_failed,
 };
 pub use throughout::lived_through_turn;
-pub use turning::{at_first, carried_right, ticked, turn_ended, turn_settled};
+pub use turning::{at_first, carried_right, offered, ticked, turn_ended, turn_settled};

@@ -19,7 +19,7 @@ ghost use Rattle.run_kept.specs.Sounds.{AreSound};
 ghost use Rattle.hub_notes.specs.declared.arrival.Arrival.{Arrival};
 ghost use Rattle.hub_notes.specs.Answers.{Arrives};
 ghost use Rattle.hub_notes.specs.Serving.{ServesAll};
-ghost use Rattle.hub_notes.specs.Turns.{finishes, EndsTurn};
+ghost use Rattle.hub_notes.specs.Turns.{finishes, EndsTurn, Offers};
 ghost use Rattle.run_kept.specs.Known.{Known, Shows};
 ghost use Rattle.run_kept.specs.Tests.{is_inner};
 ghost use Rattle.run_kept.specs.Arrivals.{arrival_note};
@@ -82,4 +82,13 @@ pub fn turns<H: Handler>()
         new.told ≡ Some after →
         ((conn : ℕ) → is_accepted conn notes ≡ true → length (old.net.taken conn) ≡ taken conn notes) → ((conn : ℕ) → length (plain meaning notes conn) < 2 ^ 64 - 1) → AreSound meaning config notes →
         AreSound meaning config (notes ++ (ends.proceeds.sending ++ (finishes ends.finished ++ turn ∷ []))) × Shows (notes ++ (ends.proceeds.sending ++ (finishes ends.finished ++ turn ∷ []))) new }
+{}
+
+/// The notes of a call that offers what is held for a connection are sound, as those of a turn's end are.
+pub fn offers<H: Handler>()
+    ensures { (meaning : Meaning H.State) (config : ConfigValue) (notes after : List NoteValue) (conn : ℕ) (old new : Server) (offers : Offers conn old new) → Agrees (world meaning notes) notes old →
+        new.told ≡ Some after →
+        ((other : ℕ) → is_accepted other notes ≡ true → length (old.net.taken other) ≡ taken other notes) → ((other : ℕ) → length (plain meaning notes other) < 2 ^ 64 - 1) →
+        AreSound meaning config notes →
+        AreSound meaning config (notes ++ (offers.proceeds.sending ++ finishes offers.finished)) × Shows (notes ++ (offers.proceeds.sending ++ finishes offers.finished)) new }
 {}

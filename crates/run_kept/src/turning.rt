@@ -2,6 +2,7 @@
 //! and does nothing.
 
 ghost use Rattle.std.specs.Prelude.{◌≡◌, ◌<◌, ◌^◌, ◌-◌, ℕ, List, [], ◌∷◌, ◌++◌, Some, None, true, length};
+ghost use Rattle.ws_kinds.specs.declared.conn.Conn.{Conn};
 ghost use Rattle.ws_kinds.specs.ConfigValue.{ConfigValue};
 ghost use Rattle.ws_kinds.specs.NoteValue as note;
 ghost use Rattle.ws_kinds.specs.NoteValue.{NoteValue};
@@ -21,7 +22,7 @@ ghost use Rattle.hub_notes.specs.Progress.{due_at};
 ghost use Rattle.hub_notes.specs.Calls.{Appends};
 ghost use Rattle.hub_notes.specs.Table.{IsTable, table_of};
 ghost use Rattle.hub_notes.specs.Answers.{Makes};
-ghost use Rattle.hub_notes.specs.Turns.{EndsTurn, finishes};
+ghost use Rattle.hub_notes.specs.Turns.{EndsTurn, Offers, finishes};
 ghost use Rattle.run_kept.specs.Ends.{AreThere, backlog_at};
 ghost use Rattle.run_kept.specs.Kept.{IntakeView, Kept};
 ghost use Rattle.run_kept.specs.Read.{AreRead};
@@ -41,6 +42,14 @@ pub fn ticked<H: Handler>()
         Kept meaning config table notes old now intakes None → (net : NetState) (new : Server) (after : List NoteValue) → length old.net.passed < 2 ^ 64 - 1 →
         Nexts event.Tick old.net net → Makes (note.tick ∷ []) (server old.hub net old.told) new → Appends nothing (server old.hub net old.told) new → new.told ≡ Some after →
         IsTable (table_of old.hub) → IsTable (table_of new.hub) → Kept meaning config table (notes ++ note.tick ∷ []) new now intakes None }
+{}
+
+/// The net answered that a link takes octets again, and then the hub offered what it holds for that connection.
+pub fn offered<H: Handler>()
+    ensures { (meaning : Meaning H.State) (config : ConfigValue) (table : RouteTable) (notes : List NoteValue) (old : Server) (now : H.State) (intakes : ℕ → IntakeView) →
+        Kept meaning config table notes old now intakes None → (conn : Conn) (net : NetState) (new : Server) (after : List NoteValue) (offers : Offers conn.0 (server old.hub net old.told) new) →
+        Nexts (event.Writable conn) old.net net → new.told ≡ Some after → IsTable (table_of old.hub) →
+        (after ≡ notes ++ (offers.proceeds.sending ++ finishes offers.finished)) × Kept meaning config table after new now intakes None }
 {}
 
 /// A turn ends: the net answered Turn, Stop or Failed, and then the hub sends what it holds, finishes connections and notes the

@@ -1,6 +1,6 @@
 -- The words that proofs of this crate and of those above use, under one name.
 pub use Rattle.std.specs.List.{flat_map, list_all, list_any}
-pub use Rattle.ws_kinds.specs.All.{ConfigValue, EventValue, NoteValue, note_value, OrderValue, close, publish, send, subscribe, unsubscribe}
+pub use Rattle.ws_kinds.specs.All.{ConfigValue, EventValue, NoteValue, note_value, OrderValue, close, publish, send, subscribe, unsubscribe, has_topic, with_topic, without_topic}
 pub use Rattle.ws_kinds.specs.declared.kind.Kind.{Kind}
 pub use Rattle.ws_kinds.specs.declared.note.Left.{Left}
 pub use Rattle.ws_kinds.specs.declared.note.Left.TheVariants.{Finished, Idle, LinkFailed, PeerEnd}
@@ -21,7 +21,6 @@ pub use Rattle.run_meaning.specs.Events.{events, events_from, one_or_none, state
 pub use Rattle.run_meaning.specs.Kept.{kept, kept_of, without}
 pub use Rattle.run_meaning.specs.Life.{Carried, Carries, Heard, IsLife, Lived, LivedThroughout, Reaches, first_frames, frames_in, heard, heard_by, is_frame_heard, last_frame, life_by, opened, read, refused, to_hear}
 pub use Rattle.run_meaning.specs.Lines.{Line, World, after_own, answered, appended, cause_of, close_frame, closed_by_server, closing, conns_after, data_frame, event_of, first_world, is_frame, is_gone_phase, is_naming, is_open, is_refused, is_still, is_subscribed, leaves_alone, leaves_open, line_after, moved, noted, noted_all, obey, obeyed, orders_of, param_after, perform, phase, plain, put, route_after, run, sends, serve, step, topics_left, unknown, world}
-pub use Rattle.ws_kinds.specs.Topics.{has_topic, with_topic, without_topic}
 pub use Rattle.run_meaning.specs.Network.{Follows, Mark, is_aside, is_inner, marks_by, marks_of}
 pub use Rattle.run_meaning.specs.Network.Mark.{arrival, tick, turn}
 pub use Rattle.run_meaning.specs.Notes.{conn_of, is_acceptance, is_event, is_gone, is_gone_by, is_left, is_of, is_sending, is_some_of, is_turn, is_unserved, until, window}
@@ -38,4 +37,5 @@ pub use Rattle.run_meaning.specs.Serving.{Serving}
 pub use Rattle.run_meaning.specs.Settled.{Held, LeftAtEnd, Settled, is_ending, is_last_note, is_reading, is_sudden}
 pub use Rattle.run_meaning.specs.Steps.{Step, appended_by, by_note, by_order, frames_of, is_for, items_by, items_of, line_by, line_by_all, notes_of, of_notes, standing_after, standing_after_all, standing_by, standing_obeys, standings_after}
 pub use Rattle.run_meaning.specs.Tell.{Tell, at_turn, has_news, is_telling, is_told, marked, nothing_told, one_dropped, tell_by, tell_by_all}
+pub use Rattle.run_meaning.specs.Told.{AreTold, IsToldRight, ToldRight, has_to_tell, held_after, tell, tell_from, tell_noted}
 pub use Rattle.run_meaning.specs.View.{item_list, item_value, item_values, line_value}

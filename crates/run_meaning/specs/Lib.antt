@@ -15,6 +15,7 @@ pub mod Steps
 pub mod Performs
 pub mod Bridge
 pub mod Tell
+pub mod Told
 pub mod Quiet
 pub mod Echo
 pub mod View

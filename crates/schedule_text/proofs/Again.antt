@@ -1,35 +1,35 @@
 -- What is printed is read again.
-use Rattle.schedule_text.proofs.Below.{◌≡◌, ◌^◌, ◌&&◌, ℕ, true, leb, ltb, List, [], ◌∷◌, ◌++◌, Some, None, length, refl, sym, Option, Result, Ok, Err, subst, inl, inr, IfSome, result_ok, AllByRecursion, and_parts, leb-true, ltb-true, is_number, is_plain, is_rising, can_send, is_sound, is_sound_after, are_sound_after, Act, ReadFault, IsNumber, SendsOctets, HasLine, schedule_text, IsReadAgain, IsText, IsUnlessMemory}
+use Rattle.schedule_text.proofs.Below.{◌≡◌, ◌^◌, ◌&&◌, ℕ, true, leb, ltb, List, [], ◌∷◌, ◌++◌, Some, None, length, refl, sym, Option, Result, Ok, Err, subst, inl, inr, IfSome, result_ok, AllByRecursion, and_parts, leb-true, ltb-true, is_number, is_rising, has_arrived, can_send, is_sound, is_sound_after, are_sound_after, Act, ReadFault, IsNumber, IsTyped, HasLine, schedule_text, IsReadAgain, IsText, IsUnlessMemory}
 use Rattle.link_trait.specs.declared.act.Act.TheVariants as act
-use Rattle.schedule_text.proofs.Followed.{clash}
 
 number_from : (conn : ℕ) → is_number conn ≡ true → IsNumber conn
 number_from conn e =
     let parts = and_parts (leb 1 conn) (ltb conn (2 ^ 32)) e in
     (leb-true _ _ parts.0, ltb-true _ _ parts.1)
 
-has_line : (acts : List Act) (act : Act) → is_sound_after acts act ≡ true → is_plain act ≡ true → SendsOctets act → HasLine act
-has_line acts (act.Arrive conn None) e plain sends = (plain, (number_from conn.0 (and_parts (is_number conn.0) (is_rising acts conn.0) e).0, tt))
-has_line acts (act.Arrive conn (Some credit)) e plain sends = absurd (clash (sym plain))
-has_line acts (act.Octets conn octets) e plain sends =
+has_line : (acts : List Act) (act : Act) → is_sound_after acts act ≡ true → IsTyped act → HasLine act
+has_line acts (act.Arrive conn credit) e typed = (number_from conn.0 (and_parts (is_number conn.0) (is_rising acts conn.0) e).0, typed)
+has_line acts (act.Octets conn octets) e typed =
     let last = and_parts (is_number conn.0 && can_send acts conn.0 && leb 1 (length octets)) (leb (length octets) 8192) e in
     let first = and_parts (is_number conn.0 && can_send acts conn.0) (leb 1 (length octets)) last.0 in
-    (plain, (number_from conn.0 (and_parts (is_number conn.0) (can_send acts conn.0) first.0).0, leb-true _ _ first.1, leb-true _ _ last.1, sends))
-has_line acts (act.End conn) e plain sends = (plain, number_from conn.0 (and_parts (is_number conn.0) (can_send acts conn.0) e).0)
-has_line acts (act.ReadFails conn) e plain sends = (plain, number_from conn.0 (and_parts (is_number conn.0) (can_send acts conn.0) e).0)
-has_line acts (act.Room conn more) e plain sends = absurd (clash (sym plain))
-has_line acts (act.WriteFails conn) e plain sends = absurd (clash (sym plain))
-has_line acts act.Tick e plain sends = (plain, tt)
-has_line acts act.Turn e plain sends = (plain, tt)
+    (number_from conn.0 (and_parts (is_number conn.0) (can_send acts conn.0) first.0).0, leb-true _ _ first.1, leb-true _ _ last.1, typed)
+has_line acts (act.End conn) e typed = number_from conn.0 (and_parts (is_number conn.0) (can_send acts conn.0) e).0
+has_line acts (act.ReadFails conn) e typed = number_from conn.0 (and_parts (is_number conn.0) (can_send acts conn.0) e).0
+has_line acts (act.Room conn more) e typed =
+    let last = and_parts (is_number conn.0 && has_arrived acts conn.0) (leb 1 more) e in
+    (number_from conn.0 (and_parts (is_number conn.0) (has_arrived acts conn.0) last.0).0, leb-true _ _ last.1, typed)
+has_line acts (act.WriteFails conn) e typed = number_from conn.0 (and_parts (is_number conn.0) (has_arrived acts conn.0) e).0
+has_line acts act.Tick e typed = tt
+has_line acts act.Turn e typed = tt
 
-have_lines : (before acts : List Act) → are_sound_after before acts ≡ true → AllByRecursion (λ act. is_plain act ≡ true) acts → AllByRecursion SendsOctets acts → AllByRecursion HasLine acts
-have_lines before [] e plain sends = tt
-have_lines before (act ∷ acts) e plain sends =
+have_lines : (before acts : List Act) → are_sound_after before acts ≡ true → AllByRecursion IsTyped acts → AllByRecursion HasLine acts
+have_lines before [] e typed = tt
+have_lines before (act ∷ acts) e typed =
     let parts = and_parts (is_sound_after before act) (are_sound_after (before ++ act ∷ []) acts) e in
-    (has_line before act parts.0 plain.0 sends.0, have_lines (before ++ act ∷ []) acts parts.1 plain.1 sends.1)
+    (has_line before act parts.0 typed.0, have_lines (before ++ act ∷ []) acts parts.1 typed.1)
 
-pub read_again : (acts : List Act) → is_sound acts ≡ true → AllByRecursion SendsOctets acts → IsReadAgain acts
-read_again acts sound sends short plain = record { short = short; text = refl; lines = have_lines [] acts sound plain sends; sound = sound }
+pub read_again : (acts : List Act) → is_sound acts ≡ true → AllByRecursion IsTyped acts → IsReadAgain acts
+read_again acts sound typed short = record { short = short; text = refl; lines = have_lines [] acts sound typed; sound = sound }
 
 -- a reading of the text of acts
 read_as : (acts : List Act) (result : Result (List Act) ReadFault) → IsUnlessMemory (Ok acts) result → IfSome (result_ok result) (λ again. again ≡ acts)

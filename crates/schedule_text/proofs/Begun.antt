@@ -3,7 +3,7 @@ use Rattle.schedule_text.proofs.Below.{◌≡◌, ℕ, ◌+◌, ◌^◌, ◌<◌
 use Rattle.link_trait.specs.declared.act.Act.TheVariants as act
 use Rattle.schedule_text.specs.declared.fault.Fault.TheVariants as fault
 use Rattle.schedule_text.proofs.Lines.{act_takes, act_again}
-use Rattle.schedule_text.proofs.Followed.{and_true, and_assoc, clash, rises}
+use Rattle.schedule_text.proofs.Followed.{and_true, and_assoc, has_named, rises}
 use Rattle.schedule_text.proofs.Outputs.{flat_map_more}
 use Rattle.schedule_text.proofs.Numbers.{some_is as some_same}
 
@@ -27,12 +27,12 @@ sends : (acts : List Act) (conn : ℕ) → sending_fault acts conn ≡ None → 
 sends acts conn e = no_end (has_arrived acts conn) (has_ended acts conn) _ _ e
 
 pub act_sound : (acts : List Act) (act : Act) → HasLine act → fault_after acts act ≡ None → is_sound_after acts act ≡ true
-act_sound acts (act.Arrive conn credit) h e = both (is_number conn.0) (is_rising acts conn.0) (number_is conn.0 h.1.0) (rises acts conn.0 e)
-act_sound acts (act.Octets conn octets) h e = rw (number_is conn.0 h.1.0, sends acts conn.0 e, le-leb _ _ h.1.1, le-leb _ _ h.1.2) refl
-act_sound acts (act.End conn) h e = both (is_number conn.0) (can_send acts conn.0) (number_is conn.0 h.1) (sends acts conn.0 e)
-act_sound acts (act.ReadFails conn) h e = both (is_number conn.0) (can_send acts conn.0) (number_is conn.0 h.1) (sends acts conn.0 e)
-act_sound acts (act.Room conn more) h e = absurd (clash (sym h.0))
-act_sound acts (act.WriteFails conn) h e = absurd (clash (sym h.0))
+act_sound acts (act.Arrive conn credit) h e = both (is_number conn.0) (is_rising acts conn.0) (number_is conn.0 h.0) (rises acts conn.0 e)
+act_sound acts (act.Octets conn octets) h e = rw (number_is conn.0 h.0, sends acts conn.0 e, le-leb _ _ h.1, le-leb _ _ h.2) refl
+act_sound acts (act.End conn) h e = both (is_number conn.0) (can_send acts conn.0) (number_is conn.0 h) (sends acts conn.0 e)
+act_sound acts (act.ReadFails conn) h e = both (is_number conn.0) (can_send acts conn.0) (number_is conn.0 h) (sends acts conn.0 e)
+act_sound acts (act.Room conn more) h e = rw (number_is conn.0 h.0, has_named acts conn.0 e, le-leb _ _ h.1) refl
+act_sound acts (act.WriteFails conn) h e = both (is_number conn.0) (has_arrived acts conn.0) (number_is conn.0 h) (has_named acts conn.0 e)
 act_sound acts act.Tick h e = refl
 act_sound acts act.Turn h e = refl
 

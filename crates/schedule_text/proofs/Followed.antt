@@ -1,5 +1,5 @@
 -- One more act, and what is kept of the acts so far.
-use Rattle.schedule_text.proofs.Below.{◌≡◌, ℕ, ◌<◌, ◌≤◌, ◌&&◌, ◌||◌, Bool, true, false, not, cond, eqb, ltb, List, [], ◌∷◌, ◌++◌, Option, Some, None, refl, sym, ap, subst, ◌∙◌, arith, list_all, list_any, eqb-true, and_parts, lt-ltb, le-ltb, nat_tests, is_below, is_arrival, is_ending, is_rising, has_arrived, has_ended, Act, Conn, Fault, Arrivals, rising_fault, sending_fault, Arrives, Ends, Follows, rising_is_new, or_false}
+use Rattle.schedule_text.proofs.Below.{◌≡◌, ℕ, ◌<◌, ◌≤◌, ◌&&◌, ◌||◌, Bool, true, false, not, cond, eqb, ltb, List, [], ◌∷◌, ◌++◌, Option, Some, None, refl, sym, ap, subst, ◌∙◌, arith, list_all, list_any, eqb-true, and_parts, lt-ltb, le-ltb, nat_tests, is_below, is_arrival, is_ending, is_rising, has_arrived, has_ended, Act, Conn, Fault, Arrivals, rising_fault, naming_fault, sending_fault, Arrives, Ends, Follows, rising_is_new, or_false}
 use Rattle.link_trait.specs.declared.act.Act.TheVariants as act
 use Rattle.schedule_text.specs.declared.fault.Fault.TheVariants as fault
 
@@ -114,6 +114,9 @@ no_unknown false x o e = absurd cc
 
 pub rises : (acts : List Act) (conn : ℕ) → rising_fault acts conn ≡ None → is_rising acts conn ≡ true
 rises acts conn e = no_rising_fault (is_rising acts conn) _ e
+
+pub has_named : (acts : List Act) (conn : ℕ) → naming_fault acts conn ≡ None → has_arrived acts conn ≡ true
+has_named acts conn e = no_rising_fault (has_arrived acts conn) _ e
 
 pub has_come : (acts : List Act) (conn : ℕ) → sending_fault acts conn ≡ None → has_arrived acts conn ≡ true
 has_come acts conn e = no_unknown (has_arrived acts conn) _ _ e

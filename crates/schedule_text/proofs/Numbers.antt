@@ -62,6 +62,11 @@ number_takes octets x e =
     let made : (b.0, drop (digit_count octets) octets) ≡ x = some_is _ _ b.2 in
     (sym (take-append-drop (digit_count octets) octets) ∙ ap (λ (v : List ℕ). v ++ drop (digit_count octets) octets) n.0 ∙ ap (λ (p : ℕ × List ℕ). decimal p.0 ++ p.1) made, subst (λ (p : ℕ × List ℕ). p.0 < 2 ^ 32) made n.1)
 
+-- a digit stands at the front
+abbrev pub starts_number : List ℕ → Bool
+starts_number [] = false
+starts_number (first ∷ rest) = is_ascii_digit first
+
 -- what may follow a number: no further digit
 abbrev pub ends_number : List ℕ → Bool
 ends_number [] = true
@@ -69,6 +74,13 @@ ends_number (first ∷ rest) = not (is_ascii_digit first)
 
 digit_passes : (octet : ℕ) → digit_value octet < 10 → is_ascii_digit octet ≡ true
 digit_passes octet h = let r = digit_from_value octet h in grind (arith, nat_tests)
+
+digits_start : (digits rest : List ℕ) → AllDigits 10 digits → 0 < length digits → starts_number (digits ++ rest) ≡ true
+digits_start [] rest all some = absurd (omega arith)
+digits_start (digit ∷ digits) rest all some = digit_passes digit all.0
+
+pub number_starts : (number : ℕ) (rest : List ℕ) → number < 2 ^ 32 → starts_number (decimal number ++ rest) ≡ true
+number_starts number rest h = digits_start (decimal number) rest (digits_decimal own number (wider number h)) (decimal_nonempty number (wider number h))
 
 first_counts : (b : Bool) (n : ℕ) → not b ≡ true → cond b (1 + n) 0 ≡ 0
 first_counts true n h = absurd cc

@@ -1,5 +1,5 @@
 -- A schedule that is printed act by act.
-use Rattle.schedule_text.proofs.Below.{◌≡◌, ℕ, suc, ◌+◌, ◌<◌, List, [], ◌∷◌, ◌++◌, Option, true, length, get_or, take, drop, sym, ap, subst, ◌∙◌, append_assoc, flat_map, AllByRecursion, take_more, Act, SendsOctets, header, schedule_text, spelled, Puts, Fails, WritesText}
+use Rattle.schedule_text.proofs.Below.{◌≡◌, ℕ, suc, ◌+◌, ◌<◌, List, [], ◌∷◌, ◌++◌, Option, true, length, get_or, take, drop, sym, ap, subst, ◌∙◌, append_assoc, flat_map, AllByRecursion, take_more, Act, IsTyped, header, schedule_text, spelled, Puts, Fails, WritesText}
 use Rattle.schedule_text.proofs.Outputs.{fails_more, puts_fails, puts_then, put_whole, flat_map_next, flat_map_parted}
 
 -- one more act is printed
@@ -18,9 +18,9 @@ prints_part acts i w0 w1 w2 f0 f1 f2 act h e p q =
     (fails_more (flat_map spelled (drop (i + 1) acts)) (puts_fails p q))
 
 -- and what it sends is octets
-sends_more : (xs : List Act) (act : Act) → AllByRecursion SendsOctets xs → SendsOctets act → AllByRecursion SendsOctets (xs ++ act ∷ [])
-sends_more [] act h k = (k, tt)
-sends_more (x ∷ xs) act h k = (h.0, sends_more xs act h.1 k)
+typed_more : (xs : List Act) (act : Act) → AllByRecursion IsTyped xs → IsTyped act → AllByRecursion IsTyped (xs ++ act ∷ [])
+typed_more [] act h k = (k, tt)
+typed_more (x ∷ xs) act h k = (h.0, typed_more xs act h.1 k)
 
-pub sends_next : (acts : List Act) (i : ℕ) (act : Act) → i < length acts → act ≡ get_or acts i act → AllByRecursion SendsOctets (take i acts) → SendsOctets act → AllByRecursion SendsOctets (take (i + 1) acts)
-sends_next acts i act h e p q = subst (AllByRecursion SendsOctets) (ap (λ (a : Act). take i acts ++ a ∷ []) e ∙ sym (take_more acts i act h)) (sends_more (take i acts) act p q)
+pub typed_next : (acts : List Act) (i : ℕ) (act : Act) → i < length acts → act ≡ get_or acts i act → AllByRecursion IsTyped (take i acts) → IsTyped act → AllByRecursion IsTyped (take (i + 1) acts)
+typed_next acts i act h e p q = subst (AllByRecursion IsTyped) (ap (λ (a : Act). take i acts ++ a ∷ []) e ∙ sym (take_more acts i act h)) (typed_more (take i acts) act p q)

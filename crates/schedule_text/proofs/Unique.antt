@@ -4,7 +4,6 @@ use Rattle.link_trait.specs.declared.act.Act.TheVariants as act
 use Rattle.schedule_text.specs.declared.fault.Fault.TheVariants as fault
 use Rattle.schedule_text.specs.declared.fault.ReadFault.TheVariants as read
 use Rattle.schedule_text.proofs.Lines.{act_again, act_once}
-use Rattle.schedule_text.proofs.Followed.{clash}
 use Rattle.schedule_text.proofs.Begun.{BreaksAs, none_is, some_fault as some_fault_once}
 
 -- ---- acts that break no rule
@@ -27,8 +26,10 @@ sound_fault acts (act.Octets conn octets) h e =
     can_send_is acts conn.0 (and_parts (is_number conn.0) (can_send acts conn.0) more.0).1
 sound_fault acts (act.End conn) h e = can_send_is acts conn.0 (and_parts (is_number conn.0) (can_send acts conn.0) e).1
 sound_fault acts (act.ReadFails conn) h e = can_send_is acts conn.0 (and_parts (is_number conn.0) (can_send acts conn.0) e).1
-sound_fault acts (act.Room conn more) h e = absurd (clash (sym h.0))
-sound_fault acts (act.WriteFails conn) h e = absurd (clash (sym h.0))
+sound_fault acts (act.Room conn more) h e =
+    let last = and_parts (is_number conn.0 && has_arrived acts conn.0) (leb 1 more) e in
+    rw (and_parts (is_number conn.0) (has_arrived acts conn.0) last.0).1 refl
+sound_fault acts (act.WriteFails conn) h e = rw (and_parts (is_number conn.0) (has_arrived acts conn.0) e).1 refl
 sound_fault acts act.Tick h e = refl
 sound_fault acts act.Turn h e = refl
 

@@ -58,12 +58,18 @@ number_at octets = do
   number ← number_of (take (digit_count octets) octets)
   Some (number, drop (digit_count octets) octets)
 
+-- a number from 1 behind a space
+unfoldable pub positive_at : List ℕ → Option (ℕ × List ℕ)
+positive_at octets = do
+  space ← octet_at 32 octets
+  number ← number_at space.1
+  if number.0 == 0 then None else Some (number.0, number.1)
+
 -- a connection's number behind a space
 unfoldable pub conn_at : List ℕ → Option (Conn × List ℕ)
 conn_at octets = do
-  space ← octet_at 32 octets
-  number ← number_at space.1
-  if number.0 == 0 then None else Some (record { 0 = number.0 }, number.1)
+  number ← positive_at octets
+  Some (record { 0 = number.0 }, number.1)
 
 -- the value of a lower-case hexadecimal digit
 abbrev pub hex_value : ℕ → Option ℕ
@@ -97,14 +103,27 @@ named_at octets = do
   end ← octet_at 10 conn.1
   Some (conn.0, end.1)
 
+-- a star for no credit, or a number
+unfoldable pub credit_at : List ℕ → Option (Option ℕ × List ℕ)
+credit_at [] = None
+credit_at (first ∷ rest) = if first == 42 then Some (None, rest) else number_at (first ∷ rest) >>= λ number. Some (Some number.0, number.1)
+
 -- what follows the letter of an arrival
 unfoldable pub arrival_at : List ℕ → Option (Act × List ℕ)
 arrival_at octets = do
   conn ← conn_at octets
   space ← octet_at 32 conn.1
-  star ← octet_at 42 space.1
-  end ← octet_at 10 star.1
-  Some (act.Arrive conn.0 None, end.1)
+  credit ← credit_at space.1
+  end ← octet_at 10 credit.1
+  Some (act.Arrive conn.0 credit.0, end.1)
+
+-- what follows the letter of room
+unfoldable pub room_at : List ℕ → Option (Act × List ℕ)
+room_at octets = do
+  conn ← conn_at octets
+  more ← positive_at conn.1
+  end ← octet_at 10 more.1
+  Some (act.Room conn.0 more.0, end.1)
 
 -- what follows the letter of octets
 unfoldable pub octets_at : List ℕ → Option (Act × List ℕ)
@@ -130,6 +149,8 @@ act_at (letter ∷ rest) =
     else if letter == 114 then octets_at rest
     else if letter == 101 then with_conn act.End rest
     else if letter == 102 then with_conn act.ReadFails rest
+    else if letter == 119 then room_at rest
+    else if letter == 98 then with_conn act.WriteFails rest
     else if letter == 116 then alone_at act.Tick rest
     else if letter == 46 then alone_at act.Turn rest
     else None

@@ -1,7 +1,7 @@
 -- What `read` answers.
 use Rattle.std.specs.Prelude.{◌≡◌, ◌≢◌, ◌≤◌, ◌<◌, ◌+◌, ◌++◌, ℕ, List, Option, Some, None, Result, Ok, Err, true, length, not, if◌then◌else◌, ◌⊎◌, ⊤}
 use Rattle.std.specs.List.{AllByRecursion}
-use Rattle.mem_net.specs.Schedule.{is_plain, is_sound, is_rising, has_arrived, has_ended}
+use Rattle.mem_net.specs.Schedule.{is_sound, is_rising, has_arrived, has_ended}
 use Rattle.link_trait.specs.declared.act.Act.{Act}
 use Rattle.link_trait.specs.declared.act.Act.TheVariants as act
 use Rattle.schedule_text.specs.declared.fault.Fault.{Fault}
@@ -51,9 +51,9 @@ pub record IsText (octets : List ℕ) (acts : List Act) : Type 0 where
   pub lines : AllByRecursion HasLine acts
   pub sound : is_sound acts ≡ true
 
--- the text of these acts is the text of a schedule with these acts, where it is not too long and its lines are read
+-- the text of these acts is the text of a schedule with these acts, where it is not too long
 abbrev pub IsReadAgain : List Act → Type 0
-IsReadAgain acts = length (schedule_text acts) ≤ 1048576 → AllByRecursion (λ act. is_plain act ≡ true) acts → IsText (schedule_text acts) acts
+IsReadAgain acts = length (schedule_text acts) ≤ 1048576 → IsText (schedule_text acts) acts
 
 -- octets that are not too long begin with the text of such a schedule, and the rest follows
 pub record Begins (octets : List ℕ) (acts : List Act) (rest : List ℕ) : Type 0 where

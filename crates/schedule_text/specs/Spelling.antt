@@ -1,7 +1,6 @@
 -- The text of a schedule, version 1.
 use Rattle.std.specs.Prelude.{◌≡◌, ◌≤◌, ◌<◌, ◌^◌, ◌++◌, ℕ, List, [], ◌∷◌, Some, None, true, length, IfSome, ⊤, codes, decimal}
 use Rattle.std.specs.List.{flat_map, AllByRecursion}
-use Rattle.mem_net.specs.Schedule.{is_plain}
 use Rattle.link_trait.specs.declared.act.Act.{Act}
 use Rattle.link_trait.specs.declared.act.Act.TheVariants as act
 use Rattle.schedule_text.specs.Line.{hex, line}
@@ -31,22 +30,20 @@ schedule_text acts = header ++ flat_map spelled acts
 abbrev pub IsNumber : ℕ → Type 0
 IsNumber conn = (1 ≤ conn) × (conn < 2 ^ 32)
 
--- what an act sends is octets
-abbrev pub SendsOctets : Act → Type 0
-SendsOctets (act.Octets conn octets) = AreOctets octets
-SendsOctets _ = ⊤
+-- what an act sends is octets, and the room that it gives is a number of 32 bits
+abbrev pub IsTyped : Act → Type 0
+IsTyped (act.Arrive conn credit) = IfSome credit (λ octets. octets < 2 ^ 32)
+IsTyped (act.Octets conn octets) = AreOctets octets
+IsTyped (act.Room conn more) = more < 2 ^ 32
+IsTyped _ = ⊤
 
--- numbers and octets are in the ranges that lines have
-abbrev pub InRange : Act → Type 0
-InRange (act.Arrive conn credit) = IsNumber conn.0 × IfSome credit (λ octets. octets < 2 ^ 32)
-InRange (act.Octets conn octets) = IsNumber conn.0 × (1 ≤ length octets) × (length octets ≤ 8192) × AreOctets octets
-InRange (act.End conn) = IsNumber conn.0
-InRange (act.ReadFails conn) = IsNumber conn.0
-InRange (act.Room conn more) = IsNumber conn.0 × (1 ≤ more) × (more < 2 ^ 32)
-InRange (act.WriteFails conn) = IsNumber conn.0
-InRange act.Tick = ⊤
-InRange act.Turn = ⊤
-
--- an act that a line may say: in range, and none of those that only links with short writes have, which are not read yet
+-- an act that a line may say: its numbers and octets are in the ranges that lines have
 abbrev pub HasLine : Act → Type 0
-HasLine act = (is_plain act ≡ true) × InRange act
+HasLine (act.Arrive conn credit) = IsNumber conn.0 × IfSome credit (λ octets. octets < 2 ^ 32)
+HasLine (act.Octets conn octets) = IsNumber conn.0 × (1 ≤ length octets) × (length octets ≤ 8192) × AreOctets octets
+HasLine (act.End conn) = IsNumber conn.0
+HasLine (act.ReadFails conn) = IsNumber conn.0
+HasLine (act.Room conn more) = IsNumber conn.0 × (1 ≤ more) × (more < 2 ^ 32)
+HasLine (act.WriteFails conn) = IsNumber conn.0
+HasLine act.Tick = ⊤
+HasLine act.Turn = ⊤

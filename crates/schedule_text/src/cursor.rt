@@ -36,22 +36,51 @@ impl Cursor<'_> {
             b'r' => self.octets(alloc),
             b'e' => Ok(self.named().map(Act::End)),
             b'f' => Ok(self.named().map(Act::ReadFails)),
+            b'w' => Ok(self.room()),
+            b'b' => Ok(self.named().map(Act::WriteFails)),
             b't' => Ok(self.octet(b'\n').map(|_| Act::Tick)),
             b'.' => Ok(self.octet(b'\n').map(|_| Act::Turn)),
             _ => Ok(None),
         }
     }
 
-    /// What follows the letter of an arrival: the connection, and a star for no limit.
+    /// What follows the letter of an arrival: the connection, and its credit.
     #[tactic(auto, unfolding(crate::specs::Front::arrival_at))]
     fn arrival(&mut self) -> Option<Act>
         ensures { Takes self.new.rest.now result (front.arrival_at self.old.rest.now) }
     {
         let conn = self.conn()?;
         self.octet(b' ')?;
-        self.octet(b'*')?;
+        let credit = self.credit()?;
         self.octet(b'\n')?;
-        Some(Act::Arrive { conn, credit: None })
+        Some(Act::Arrive { conn, credit })
+    }
+
+    /// A star for no credit, or a number.
+    #[tactic(auto, unfolding(crate::specs::Front::credit_at))]
+    fn credit(&mut self) -> Option<Option<u32>>
+        ensures { Takes self.new.rest.now result (front.credit_at self.old.rest.now) }
+    {
+        let [first, rest @ ..] = self.rest else {
+            return None;
+        };
+        if *first == b'*' {
+            self.rest = rest;
+            return Some(None);
+        }
+        let number = self.number()?;
+        Some(Some(number))
+    }
+
+    /// What follows the letter of room: the connection, and a number from 1.
+    #[tactic(auto, unfolding(crate::specs::Front::room_at))]
+    fn room(&mut self) -> Option<Act>
+        ensures { Takes self.new.rest.now result (front.room_at self.old.rest.now) }
+    {
+        let conn = self.conn()?;
+        let more = self.positive()?;
+        self.octet(b'\n')?;
+        Some(Act::Room { conn, more })
     }
 
     /// What follows the letter of octets: the connection, and the octets.
@@ -89,12 +118,21 @@ impl Cursor<'_> {
     fn conn(&mut self) -> Option<Conn>
         ensures { Takes self.new.rest.now result (front.conn_at self.old.rest.now) }
     {
+        let number = self.positive()?;
+        Some(Conn(u64::from(number)))
+    }
+
+    /// A number from 1 behind a space.
+    #[tactic(auto, unfolding(crate::specs::Front::positive_at))]
+    fn positive(&mut self) -> Option<u32>
+        ensures { Takes self.new.rest.now result (front.positive_at self.old.rest.now) }
+    {
         self.octet(b' ')?;
         let number = self.number()?;
         if number == 0 {
             return None;
         }
-        Some(Conn(u64::from(number)))
+        Some(number)
     }
 
     /// A number: decimal digits without a leading zero.

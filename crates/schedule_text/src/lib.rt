@@ -13,11 +13,11 @@
 //! | `t` | a tick |
 //! | `.` | a turn |
 //!
-//! C is a number from 1 to 4,294,967,295. Numbers are decimal digits without a leading zero. Until links with short writes
-//! come, an `a` line with a number, a `w` line and a `b` line are written and not read.
+//! C is a number from 1 to 4,294,967,295, CREDIT is one from 0 and N one from 1 to the same. Numbers are decimal digits without a
+//! leading zero.
 //!
 //! A text of more than 1,048,576 octets is not read. Printing has no such limit: what it writes can be read again where the
-//! text has at most 1,048,576 octets and only lines that are read. Then it spells these acts and no others.
+//! text has at most 1,048,576 octets. Then it spells these acts and no others.
 #![tactic(auto)]
 
 mod arrivals;

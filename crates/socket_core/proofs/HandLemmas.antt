@@ -1,9 +1,8 @@
 -- What becomes of octets that are offered or held back: one write, two writes, a write that fails, and none.
-use Rattle.socket_core.proofs.Below.{◌-◌, ◌≡◌, ◌≢◌, ◌<◌, ◌≤◌, ◌+◌, ℕ, List, [], ◌∷◌, ◌++◌, Option, Some, None, Bool, true, false, ◌&&◌, cond, if◌then◌else◌, nat_lt, length, take, drop, refl, sym, ap, ◌∙◌, subst, append-nil, append_assoc, arith, nat_tests, length-append, length-drop, take_all, NoteValue, IsNoted, AreNoted, NetState, Writes, Kept, Clear, Backlog, Failed, Hands, Offers, OffersNoted, KeepsNet, LeavesLinkWhole, BreaksLink, TellsFailure, Item, writes, taken, taken_of, Held, Stands, IsCounted, held_octets, Moves, Others, FailsWithin, TakesFront, ShortWhereHeld, WritesAreNoted, list_all, is_sending, moves_offer, moves_keep, moves_drain, moves_drain_both, others_took, others_then, others_same, noted_took, noted_failed, short_took, taken_failed, taken_elsewhere, taken_written, took_stands, short_of_front, drop-drop, drop-append-le, drop_all, length-take-le, Rose, inl, inr, Dropped, rules, RingValue, HandsOver, OffersParts, TellsRing, with_octets}
+use Rattle.socket_core.proofs.Below.{◌-◌, ◌≡◌, ◌≢◌, ◌<◌, ◌≤◌, ◌+◌, ℕ, List, [], ◌∷◌, ◌++◌, Option, Some, None, Bool, true, false, ◌&&◌, cond, if◌then◌else◌, nat_lt, length, take, drop, refl, sym, ap, ◌∙◌, subst, append-nil, append_assoc, arith, nat_tests, length-append, length-drop, take_all, NoteValue, IsNoted, AreNoted, NetState, Writes, Kept, Clear, Backlog, Failed, Hands, Offers, OffersNoted, KeepsNet, LeavesLinkWhole, BreaksLink, TellsFailure, writes, taken, Moves, list_all, is_sending, moves_offer, moves_keep, moves_drain, moves_drain_both, others_took, others_then, others_same, noted_took, noted_failed, short_took, taken_elsewhere, taken_written, took_stands, short_of_front, drop-drop, drop-append-le, drop_all, length-take-le, Rose, inl, inr, Dropped, rules, RingValue, HandsOver, OffersParts, TellsRing, with_octets, NetWrote}
 use Rattle.ws_kinds.specs.NoteValue as note
-use Rattle.link_trait.specs.declared.net.NetWrote.{NetWrote}
 use Rattle.link_trait.specs.declared.net.NetWrote.TheVariants as wrote
-use Rattle.socket_core.proofs.OfferLemmas.{one_noted, own_took, writes_took, taken_took, offers_took, front_failed}
+use Rattle.socket_core.proofs.OfferLemmas.{offers_took, front_failed}
 
 -- ---- the net
 
@@ -290,6 +289,11 @@ over_took c m k octets old new on nn t t' ok tells none e offered = record {
   capacity = ap (λ (z : RingValue). z.capacity) e;
 }
 
+-- all was taken, and nothing is held back
+pub over_all : (c m : ℕ) (octets : List ℕ) (old : RingValue) (on nn : NetState) (t t' : Option (List NoteValue)) → old.octets ≡ [] → m ≡ length octets → Offers (Some m) c octets on nn t t' → HandsOver c Clear octets old old on nn t t'
+over_all c m octets old on nn t t' none all offered = over_took c m Clear octets old old on nn t t' (λ failed. absurd (let z : Clear ≡ Failed = failed in cc)) (λ _. none) none
+    (sym (ap (λ (z : List ℕ). record old { octets = z }) (ap (λ (z : List ℕ). old.octets ++ z) (drop_all m octets (omega arith)) ∙ append-nil old.octets))) offered
+
 pub over_failed : (c : ℕ) (octets : List ℕ) (old : RingValue) (on nn : NetState) (t t' : Option (List NoteValue)) → old.octets ≡ [] → Offers None c octets on nn t t' → HandsOver c Failed octets old old on nn t t'
 over_failed c octets old on nn t t' none failing = record {
   hands = hands_failed c octets octets old.octets on nn t t' failing;
@@ -343,10 +347,6 @@ hands_for {c} {octets} {ring} {left} {on} {nn} {t} {t'} k ok h = record {
   failed = whole_tells k c on nn ok h.failed;
   net = h.net;
 }
-
--- where all was taken, nothing is held back
-pub empty_took : (m : ℕ) (octets : List ℕ) (old new : RingValue) → new ≡ with_octets (drop m octets) old → m ≡ length octets → old.octets ≡ [] → new.octets ≡ []
-empty_took m octets old new e all none = ap (λ (z : RingValue). z.octets) e ∙ ap (λ (z : List ℕ). z ++ drop m octets) none ∙ drop_all m octets (omega arith)
 
 -- a slice from a place on
 pub rest_of : (m : ℕ) (o : List ℕ) → take (length o - m) (drop m o) ≡ drop m o

@@ -1,12 +1,9 @@
 -- What a step of a socket does, by what becomes of its octets.
-use Rattle.socket_core.proofs.Below.{◌≡◌, ◌≢◌, ◌<◌, ◌≤◌, ◌+◌, ◌-◌, ◌^◌, min, max, ℕ, List, [], ◌∷◌, ◌++◌, Option, Some, Bool, true, false, nat_eq, length, refl, sym, ap, ◌∙◌, subst, append-nil, arith, nat_tests, NoteValue, IsNoted, NetState, Kept, Clear, Backlog, Dropped, Failed, Hands, HandsOver, KeepsNet, LeavesLinkWhole, TellsFailure, TellsRing, OffersNoted, PassesOctets, Entry, RingValue, WritesAreNoted, drops_in, is_drop, joined, list_all, is_sending, short_dropped, others_dropped, moves_drop, moves_pop, moves_then, up_by_one, writes_more, split_told}
-use Rattle.socket_core.proofs.Below.{◌||◌, ◌==◌, if◌then◌else◌, nat_lt, length-append, ConfigValue, IsPuttable, octets_of, header, opcode_number, size_octets, to_be_bytes, w16, w64, Begins, Text, Binary}
-use Rattle.socket_core.specs.declared.item.Item.{Item as Puttable}
-use Rattle.socket_core.specs.declared.item.Item.TheVariants.{Reply, Spelled, Frame}
+use Rattle.socket_core.proofs.Below.{◌≡◌, ◌≢◌, ◌<◌, ◌≤◌, ◌+◌, ◌-◌, ◌^◌, min, max, ℕ, List, [], ◌∷◌, ◌++◌, Option, Some, Bool, true, false, nat_eq, length, refl, sym, ap, ◌∙◌, subst, append-nil, arith, nat_tests, NoteValue, IsNoted, NetState, Kept, Clear, Backlog, Dropped, Failed, Hands, HandsOver, TellsRing, OffersNoted, PassesOctets, Entry, RingValue, WritesAreNoted, drops_in, is_drop, joined, list_all, is_sending, short_dropped, others_dropped, moves_drop, moves_pop, moves_then, up_by_one, writes_more, split_told, ◌||◌, ◌==◌, if◌then◌else◌, nat_lt, length-append, ConfigValue, IsPuttable, octets_of, header, opcode_number, size_octets, to_be_bytes, w16, w64, Begins, Text, Binary, Puttable, Reply, Spelled, Frame}
 use Rattle.ws_kinds.specs.NoteValue as note
 use Rattle.hub_lines.specs.Told.{writes}
 use Rattle.socket_core.proofs.OfferLemmas.{one_noted}
-use Rattle.socket_core.proofs.HandLemmas.{net_same, whole_tells}
+use Rattle.socket_core.proofs.HandLemmas.{net_same}
 
 undropped_none : (k : Kept) → is_drop k ≡ false → 0 ≡ drops_in k
 undropped_none Clear e = refl
@@ -24,7 +21,7 @@ undropped_of Failed ring tells = refl
 offers_as : (k : Kept) (c : ℕ) (on nn : NetState) (t t' : Option (List NoteValue)) → is_drop k ≡ false → OffersNoted Clear c on nn t t' → OffersNoted k c on nn t t'
 offers_as k c on nn t t' e offers = record { notes = offers.notes; own = offers.own; dropped = offers.dropped ∙ undropped_none k e; told = offers.told; wrote = offers.wrote; taken = offers.taken }
 
-length_one : (o : List ℕ) → length (joined (o ∷ [])) ≡ length o
+pub length_one : (o : List ℕ) → length (joined (o ∷ [])) ≡ length o
 length_one o = ap length (append-nil o)
 
 -- what is held back was offered

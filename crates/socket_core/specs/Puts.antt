@@ -1,11 +1,13 @@
 -- What putting an item answers, and what it leaves of the net.
-use Rattle.std.specs.Prelude.{◌≡◌, ◌≢◌, ◌<◌, ◌≤◌, ◌+◌, ◌-◌, ◌^◌, min, max, ℕ, List, [], ◌++◌, Option, Some, None, Bool, true, false, length, ⊤}
+use Rattle.std.specs.Prelude.{◌≡◌, ◌≢◌, ◌<◌, ◌≤◌, ◌+◌, ◌-◌, ◌^◌, min, max, ℕ, List, [], ◌++◌, Option, Some, None, Bool, true, false, nat_lt, if◌then◌else◌, length, drop, ⊤}
 use Rattle.std.specs.List.{list_all}
 use Rattle.ws_kinds.specs.NoteValue.{NoteValue, took}
 use Rattle.ws_kinds.specs.Watch.{IsNoted, AreNoted}
+use Rattle.ws_kinds.specs.declared.tally.Tally.{Tally}
 use Rattle.link_trait.specs.NetState.{NetState}
 use Rattle.link_trait.specs.Net.{CountsFault, Same, SameBut, SameNet, SameTrafficBut, Writes}
 use Rattle.link_trait.specs.declared.net.NetWrote.TheVariants.{Took as Accepted, Failed as WriteFailed}
+use Rattle.backlog.specs.RingValue.{ringed_more}
 use Rattle.hub_lines.specs.Fronts.{FailsWithin}
 use Rattle.hub_lines.specs.Items.{joined}
 use Rattle.hub_lines.specs.Moves.{Moves, Others, buffered_of}
@@ -107,3 +109,19 @@ is_drop _ = false
 abbrev pub Offers : Option ℕ → ℕ → List ℕ → NetState → NetState → Option (List NoteValue) → Option (List NoteValue) → Type 0
 Offers (Some count) conn octets old new old_told new_told = Writes conn octets (Accepted count) old new × IsNoted old_told (took conn (length octets) count) new_told
 Offers None conn octets old new old_told new_told = Writes conn octets WriteFailed old new × (new_told ≡ old_told)
+
+-- one write took so many of these octets, which is noted, and those that it did not take are left
+pub record OffersSome (conn : ℕ) (octets left : List ℕ) (old new : NetState) (old_told new_told : Option (List NoteValue)) : Type 0 where
+  pub count : ℕ
+  pub write : Offers (Some count) conn octets old new old_told new_told
+  pub rest : left ≡ drop count octets
+
+-- an item's octets were offered in one write, and those that it did not take are held back; or it failed, and then nothing is noted
+-- and nothing is held back
+abbrev pub OffersOnce : Kept → ℕ → List ℕ → List ℕ → NetState → NetState → Option (List NoteValue) → Option (List NoteValue) → Type 0
+OffersOnce Failed conn octets left old new old_told new_told = Offers None conn octets old new old_told new_told × (left ≡ [])
+OffersOnce _ conn octets left old new old_told new_told = OffersSome conn octets left old new old_told new_told
+
+-- the octets that came behind those in a ring, and no others, are counted as copied
+abbrev pub CountsRinged : List ℕ → List ℕ → Tally → Tally → Type 0
+CountsRinged old_ring new_ring old new = new ≡ (if nat_lt (length old_ring) (length new_ring) then ringed_more (length new_ring - length old_ring) old else old)

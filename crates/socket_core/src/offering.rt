@@ -1,7 +1,7 @@
 //! What is offered to a connection's link, and what is held back.
 
-ghost use Rattle.std.specs.Prelude.{◌≡◌, ◌≢◌, ◌<◌, ◌≤◌, ◌+◌, ◌^◌, [], ℕ, true, false, length, IfSome};
-ghost use Rattle.socket_core.specs.Puts.{Offers, TellsRing, is_drop};
+ghost use Rattle.std.specs.Prelude.{◌≡◌, ◌≢◌, ◌<◌, ◌≤◌, ◌+◌, ◌^◌, [], ℕ, true, false, length};
+ghost use Rattle.socket_core.specs.Puts.{CountsRinged, Offers, OffersOnce, TellsRing, is_drop};
 ghost use Rattle.socket_core.specs.Offers.{HandsOver, OffersParts};
 
 use crate::Kept;
@@ -22,17 +22,22 @@ pub(crate) fn hand_over<N: Net, W: Watch>(
     requires room { length ring.old.octets + length octets.now ≤ ring.old.capacity }
     ensures hands { HandsOver conn.0 result octets.now ring.old ring.new (N.state out.old.net) (N.state out.new.net) (W.told out.old.watch) (W.told out.new.watch) }
 
-    // As long as each link takes all that it is offered, nothing is held back.
-    ensures empty { ring.old.octets ≡ [] → ring.new.octets ≡ [] }
+    // Where nothing is held back they are offered in one write. What is held back by this call is copied once, and nothing else is.
+    ensures once { ring.old.octets ≡ [] → OffersOnce result conn.0 octets.now ring.new.octets (N.state out.old.net) (N.state out.new.net) (W.told out.old.watch) (W.told out.new.watch) }
+    ensures tally { CountsRinged ring.old.octets ring.new.octets out.old.tally out.new.tally }
 {
     if ring.length() > 0 {
         ring.put(octets, &mut out.tally);
         return kept(ring);
     }
-    match offer(out, conn, octets) {
-        Some(count) => ring.put(&octets[count..], &mut out.tally),
+    let count = match offer(out, conn, octets) {
+        Some(count) => count,
         None => return Kept::Failed,
+    };
+    if count == octets.len() {
+        return Kept::Clear;
     }
+    ring.put(&octets[count..], &mut out.tally);
     kept(ring)
 }
 
@@ -65,7 +70,7 @@ fn offer<N: Net, W: Watch>(out: &mut Outside<N, W>, conn: Conn, octets: &[u8]) -
     requires live { (N.state out.old.net).live conn.0 ≡ true }
     requires some { 0 < length octets.now }
     ensures offers { Offers result conn.0 octets.now (N.state out.old.net) (N.state out.new.net) (W.told out.old.watch) (W.told out.new.watch) }
-    ensures all { IfSome result (λ count. count ≡ length octets.now) }
+    ensures tally { out.new.tally ≡ out.old.tally }
 {
     let count = match out.net.write(conn, octets) {
         NetWrote::Took(count) => count,

@@ -6,7 +6,7 @@ ghost use Rattle.hub_lines.specs.Told.{WritesAreNoted};
 ghost use Rattle.hub_lines.specs.State.{new_entry, most_held};
 ghost use Rattle.socket_core.specs.Items.{octets_of, can_drop, IsPuttable};
 ghost use Rattle.socket_core.specs.Phases.{can_enter, entered};
-ghost use Rattle.socket_core.specs.Puts.{PassesOctets, is_drop};
+ghost use Rattle.socket_core.specs.Puts.{CountsRinged, OffersOnce, PassesOctets, is_drop};
 
 use crate::item::{Item, spell};
 use crate::offering::{hand_over, kept, offer_parts};
@@ -102,11 +102,14 @@ impl Socket {
         // It is dropped exactly where it may be and more is held back than the limit.
         ensures dropped { is_drop result ≡ (can_drop item.entry && nat_lt self.old.config.limit (length self.old.ring)) }
 
-        // As long as each link takes all that it is offered, nothing is held back.
-        ensures empty { self.old.ring ≡ [] → self.new.ring ≡ [] }
-
-        // Nothing is offered while something is held back.
+        // Where nothing is held back, the item is offered in one write, and what that did not take is held back. Else nothing is
+        // offered.
+        ensures once { self.old.ring ≡ [] → OffersOnce result self.old.conn (octets_of item.entry) self.new.ring
+            (N.state out.old.net) (N.state out.new.net) (W.told out.old.watch) (W.told out.new.watch) }
         ensures waits { self.old.ring ≢ [] → N.state out.new.net ≡ N.state out.old.net }
+
+        // What is held back by this call is copied once, and nothing else is.
+        ensures tally { CountsRinged self.old.ring self.new.ring out.old.tally out.new.tally }
     {
         let index = self.numbered;
         self.numbered = self.numbered.saturating_add(1);

@@ -4,8 +4,6 @@ ghost use Rattle.wire_meaning.specs.declared.frame.Opcode.TheVariants.{Begins};
 ghost use Rattle.wire_meaning.specs.Answer.{spelled, whole};
 ghost use Rattle.hub_lines.specs.Moves.{Moves, buffered_of};
 ghost use Rattle.ws_kinds.specs.ConfigValue.{usual_config};
-ghost use Rattle.std.specs.List.{list_all};
-ghost use Rattle.mem_net.specs.Schedule as spec;
 
 use super::*;
 use link_trait::{Act, Net, NetEvent, Outside};
@@ -15,22 +13,6 @@ use ws_kinds::{Config, Conn, Note, Phase, Recorder, Tally, Watch};
 
 const ONE: Conn = Conn(1);
 
-fn is_plain(act: &Act) -> bool
-    ensures { result ≡ spec.is_plain act.now }
-{
-    match act {
-        Act::Arrive { credit, .. } => credit.is_none(),
-        Act::Room { .. } | Act::WriteFails(_) => false,
-        _ => true,
-    }
-}
-
-fn are_plain(acts: &[Act]) -> bool
-    ensures { result ≡ list_all spec.is_plain acts.now }
-{
-    acts.iter().all(|act| is_plain(act))
-}
-
 /// A net on which one connection arrives, and a watch that keeps the notes.
 fn outside(rt: &HostRuntime) -> Result<Outside<MemNet, Recorder>, Fail> {
     let mut schedule = Schedule::new(rt.alloc());
@@ -39,7 +21,7 @@ fn outside(rt: &HostRuntime) -> Result<Outside<MemNet, Recorder>, Fail> {
         credit: None,
     };
     schedule.push(arrival).ok().ok_or("memory")?;
-    if !schedule.sound() || !are_plain(schedule.acts()) {
+    if !schedule.sound() {
         return Err(Fail::new("the schedule"));
     }
     Ok(Outside {
@@ -57,7 +39,6 @@ fn put_reply<N: Net, W: Watch>(socket: &mut Socket, out: &mut Outside<N, W>) -> 
     requires empty { socket.old.ring ≡ [] }
     ensures live { (N.state out.new.net).live socket.new.conn ≡ true }
     ensures usual { socket.new.config ≡ usual_config }
-    ensures empty { socket.new.ring ≡ [] }
 {
     let reply = socket.put_frame(out, Item::Reply(b"reply"));
     [reply, socket.put_frame(out, Item::Spelled(b"\x81\x01A"))]
@@ -71,19 +52,20 @@ fn put_text<N: Net, W: Watch>(socket: &mut Socket, out: &mut Outside<N, W>, payl
         (buffered_of socket.old []) (buffered_of socket.new []) (N.state out.old.net) (N.state out.new.net) (W.told out.old.watch) (W.told out.new.watch) }
     ensures live { (N.state out.new.net).live socket.new.conn ≡ true }
     ensures usual { socket.new.config ≡ socket.old.config }
-    ensures empty { socket.old.ring ≡ [] → socket.new.ring ≡ [] }
 {
     socket.put_frame(out, Item::Frame(1, payload))
 }
 
-/// Puts a text and a close frame.
+/// Puts a text, and a close frame where nothing is held back.
 fn put_frames<N: Net, W: Watch>(socket: &mut Socket, out: &mut Outside<N, W>) -> [Kept; 2]
     requires live { (N.state out.old.net).live socket.old.conn ≡ true }
     requires usual { socket.old.config ≡ usual_config }
-    requires empty { socket.old.ring ≡ [] }
     ensures live { (N.state out.new.net).live socket.new.conn ≡ true }
 {
     let text = put_text(socket, out, b"Hello");
+    if socket.ring_length() > 0 {
+        return [text; 2];
+    }
     [text, socket.put_frame(out, Item::Frame(8, b"\x03\xe9"))]
 }
 

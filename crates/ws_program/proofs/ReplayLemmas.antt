@@ -1,5 +1,5 @@
 -- What was read of a text can be run.
-use Rattle.ws_program.proofs.Below.{◌≡◌, ◌≤◌, ◌<◌, ◌+◌, ◌++◌, ◌&&◌, ℕ, List, [], ◌∷◌, Some, None, true, length, refl, ◌⊎◌, inl, inr, Option, append-nil, subst, ap, ◌∙◌, arith, rules, list_all, AllByRecursion, flat_map, length-append, is_plain, Act, header, HasLine, IsText, IsRefused, Fault, Consumes, IsAtEnd, ConfigValue, TellsAlike, Status, Done, Usage, Refused, ReadFault, WriteFault, OutOfMemory, CanRun, AnswersText, IsTaken, RefusesAs, ReplaysAll, ReplaysFront, IsRefusal, ReplayEnds, Streams, spelled_some}
+use Rattle.ws_program.proofs.Below.{◌≡◌, ◌≤◌, ◌<◌, ◌+◌, ◌++◌, ◌&&◌, ℕ, List, [], ◌∷◌, Some, None, true, length, refl, ◌⊎◌, inl, inr, Option, append-nil, subst, ap, ◌∙◌, arith, rules, list_all, AllByRecursion, flat_map, length-append, Act, header, IsText, IsRefused, Fault, Consumes, IsAtEnd, ConfigValue, TellsAlike, Status, Done, Usage, Refused, ReadFault, WriteFault, OutOfMemory, CanRun, AnswersText, IsTaken, RefusesAs, ReplaysAll, ReplaysFront, IsRefusal, ReplayEnds, Streams, spelled_some}
 use Rattle.link_trait.specs.declared.act.Act.TheVariants as act
 use Rattle.schedule_text.specs.Spelling.{spelled}
 use Rattle.schedule_text.specs.declared.fault.Fault.TheVariants as fault
@@ -10,15 +10,9 @@ few_acts : (acts : List Act) → length acts ≤ length (flat_map spelled acts)
 few_acts [] = omega arith
 few_acts (act ∷ acts) = omega (arith, spelled_some act, few_acts acts, length-append (spelled act) (flat_map spelled acts))
 
--- each act that has a line is one that a net in memory does
-all_plain : (acts : List Act) → AllByRecursion HasLine acts → list_all is_plain acts ≡ true
-all_plain [] lines = refl
-all_plain (act ∷ acts) lines = ap (λ b. b && list_all is_plain acts) lines.0.0 ∙ all_plain acts lines.1
-
 pub can_run : (octets : List ℕ) (acts : List Act) → IsText octets acts → CanRun acts
 can_run octets acts text = record {
   sound = text.sound;
-  plain = all_plain acts text.lines;
   few = omega (arith, few_acts acts, text.short, ap length text.text, length-append header (flat_map spelled acts));
 }
 

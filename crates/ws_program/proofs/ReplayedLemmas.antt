@@ -1,5 +1,5 @@
 -- What comes of the acts of a schedule, where a run over its net is right and settled.
-use Rattle.ws_program.proofs.Below.{◌≡◌, ◌≢◌, ℕ, List, [], ◌∷◌, ◌++◌, Bool, true, false, cond, not, ◌&&◌, ◌||◌, ◌⊎◌, inl, inr, Option, Some, None, length, take, nat_eq, nat_lt, refl, sym, ap, ◌∙◌, subst, append-nil, arith, take-length, nat_tests, list_any, ConfigValue, Left, PeerEnd, LinkFailed, Phase, Head, Open, Leaving, Ending, Gone, NoteValue, Act, Finish, sent, finish_of, finish_by, or_then, is_end, is_fault, LinkState, is_ready, is_finish, has_arrived, is_ending, MemNetState, FollowsSchedule, net_state, link_at, not_there, RouteTable, is_gone_by, is_accepted, is_gone_by_in, phase, is_gone_phase, is_reading, Right, LivedThroughout, by_cases, clash, both_left, both_right, unaccepted_phase, IsReplayed, is_end_of, is_fault_of, or_second, or_first, is_left, is_gone_in, Server, known_world, bus_server, gone-append}
+use Rattle.ws_program.proofs.Below.{◌≡◌, ◌≢◌, ℕ, List, [], ◌∷◌, ◌++◌, Bool, true, false, cond, not, ◌&&◌, ◌||◌, ◌⊎◌, inl, inr, Option, Some, None, length, take, nat_eq, nat_lt, refl, sym, ap, ◌∙◌, subst, append-nil, arith, take-length, nat_tests, list_any, ConfigValue, Left, PeerEnd, LinkFailed, Phase, Head, Open, Leaving, Ending, Gone, NoteValue, Act, Finish, sent, finish_of, finish_by, or_then, is_end, is_fault, LinkState, is_ready, is_finish, has_arrived, is_ending, MemNetState, FollowsSchedule, net_state, link_at, not_there, RouteTable, is_gone_by, is_accepted, is_gone_by_in, phase, is_gone_phase, is_reading, Right, LivedThroughout, by_cases, clash, both_left, both_right, unaccepted_phase, IsReplayed, is_end_of, is_fault_of, or_second, or_first, is_left, is_gone_in, Server, known_world, bus_server, gone-append, credit_of, is_write_failure, writes_fail}
 use Rattle.ws_kinds.specs.NoteValue as note
 use Rattle.link_trait.specs.declared.act.Act.TheVariants as act
 use Rattle.mem_net.specs.declared.mem_link.Finish.TheVariants as finish
@@ -76,6 +76,7 @@ fault_act d (act.End c) e = one (nat_eq c.0 d) e
     one : (b : Bool) → cond b finish.End finish.Later ≡ finish.Failed → false ≡ true
     one true e = absurd (let z : finish.End ≡ finish.Failed = e in cc)
     one false e = absurd (let z : finish.Later ≡ finish.Failed = e in cc)
+fault_act d (act.WriteFails c) e = absurd (let z : finish.Later ≡ finish.Failed = e in cc)
 fault_act d a e = absurd (let z : finish.Later ≡ finish.Failed = e in cc)
 
 first_end : (a b : Finish) (A : Type 0) → or_then a b ≡ finish.End → (a ≡ finish.End → A) → (b ≡ finish.End → A) → A
@@ -101,6 +102,18 @@ some_fault d (a ∷ acts) e =
     first_fault (finish_by d a) (finish_of d acts) (list_any (is_fault_of d) (a ∷ acts) ≡ true) e
     (λ here. or_first (is_fault_of d a) (list_any (is_fault_of d) acts) (fault_act d a here))
     (λ later. or_second (is_fault_of d a) (list_any (is_fault_of d) acts) (some_fault d acts later))
+
+failing_act : (d : ℕ) (a : Act) → is_write_failure d a ≡ true → is_fault_of d a ≡ true
+failing_act d (act.WriteFails c) e = e
+failing_act d (act.ReadFails c) e = clash false refl e
+failing_act d a e = clash false refl e
+
+some_failing : (d : ℕ) (acts : List Act) → writes_fail d acts ≡ true → list_any (is_fault_of d) acts ≡ true
+some_failing d [] e = clash false refl e
+some_failing d (a ∷ acts) e =
+    by_cases (is_write_failure d a)
+    (λ here. or_first (is_fault_of d a) (list_any (is_fault_of d) acts) (failing_act d a here))
+    (λ away. or_second (is_fault_of d a) (list_any (is_fault_of d) acts) (some_failing d acts (ap (λ (z : Bool). z || writes_fail d acts) (sym away) ∙ e)))
 
 is_end_is : (e : Finish) → is_end e ≡ true → e ≡ finish.End
 is_end_is finish.Later e = clash false refl e
@@ -211,9 +224,18 @@ module _ {S : Type 0} (s : Server S) (f : ConfigValue) (t : RouteTable) (ns : Li
         let breaks : (link_at net d).broken ≡ true = sym (right.follows.broken d accepted) ∙ gone in
         let there = arrived d (λ link. link.broken) breaks (λ none. ap (λ (link : LinkState). link.broken) (not_there d net none)) in
         let fits = follows.fits d there in
-        let both : ((link_at net d).answered && is_fault (link_at net d).finish) ≡ true = fits.unbroken whole breaks in
-        let finished = is_fault_is (link_at net d).finish (both_right (link_at net d).answered (is_fault (link_at net d).finish) both) in
-        some_fault d net.acts (sym (finish_all d there) ∙ finished)
+        by_cases ((link_at net d).answered && is_fault (link_at net d).finish)
+        (λ both. some_fault d net.acts (sym (finish_all d there) ∙ is_fault_is (link_at net d).finish (both_right (link_at net d).answered (is_fault (link_at net d).finish) both)))
+        (λ away.
+        let failing : (link_at net d).failing ≡ true = ap (λ (z : Bool). z || (link_at net d).failing) (sym away) ∙ fits.unbroken whole breaks in
+        some_failing d net.acts (ap (writes_fail d) (sym all_acts) ∙ sym fits.takes.failing_is ∙ failing))
+
+    -- a live link for which octets are held took all that the acts let it take
+    pub replay_short : (d : ℕ) → is_accepted d ns ≡ true → is_gone_phase (phase s ns d) ≡ false → held d ≢ [] → credit_of d net.acts ≡ Some (length ((net_state net).taken d))
+    replay_short d accepted stays some =
+        let lives : (link_at net d).live ≡ true = settled.live d ∙ ap (λ z. z && not (is_gone_phase (phase s ns d))) accepted ∙ ap not stays in
+        let there = arrived d (λ link. link.live) lives (λ none. ap (λ (link : LinkState). link.live) (not_there d net none)) in
+        ap (credit_of d) (sym all_acts) ∙ (follows.fits d there).takes.full lives (settled.waits d some)
 
 pub replay_all : (f : ConfigValue) (t : RouteTable) (ns : List NoteValue) (net : MemNetState) (held replies : ℕ → List ℕ) → Right (bus_server replies) f t ns (net_state net) tt held
     → FollowsSchedule net → net.whole ≡ true → net.done ≡ length net.acts → Settled (bus_server replies) ns (net_state net) (record { pending = 0; gathered = []; backlog = held })
@@ -226,4 +248,5 @@ replay_all f t ns net held replies right follows whole done settled throughout =
   unended = replay_unended (bus_server replies) f t ns net held tt right follows whole done settled;
   ended = replay_ended (bus_server replies) f t ns net held tt right follows whole done settled;
   failed = replay_failed (bus_server replies) f t ns net held tt right follows whole done settled;
+  short = replay_short (bus_server replies) f t ns net held tt right follows whole done settled;
 }

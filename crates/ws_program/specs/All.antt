@@ -14,9 +14,9 @@ pub use Rattle.wire_meaning.specs.declared.frame.Opcode.TheVariants.{Begins, Pon
 pub use Rattle.link_trait.specs.All.{Rose, TellsAlike, is_rest, NetState, AppendsFront}
 pub use Rattle.link_trait.specs.declared.act.Act.{Act}
 pub use Rattle.link_trait.specs.declared.net.NetEvent.{NetEvent}
-pub use Rattle.mem_net.specs.All.{arrivals, finish_by, finish_of, is_end, is_fault, or_then, passes, passes_by, sent, LinkState, is_finish, is_ready, new_link, FollowsSchedule, MemNetState, link_at, link_of, net_state, start_net, has_arrived, is_ending, is_plain}
+pub use Rattle.mem_net.specs.All.{arrivals, credit_of, finish_by, finish_of, is_end, is_fault, is_write_failure, or_then, passes, passes_by, sent, writes_fail, LinkState, is_finish, is_ready, new_link, FollowsSchedule, MemNetState, link_at, link_of, net_state, start_net, has_arrived, is_ending}
 pub use Rattle.mem_net.specs.declared.mem_link.Finish.{Finish}
-pub use Rattle.schedule_text.specs.All.{WritesText, IsRefused, IsText, Link, link_line, note_line, report, HasLine, header}
+pub use Rattle.schedule_text.specs.All.{WritesText, IsRefused, IsText, Link, link_line, note_line, report, header}
 pub use Rattle.schedule_text.specs.declared.fault.Fault.{Fault}
 pub use Rattle.schedule_text.specs.declared.fault.Fault.TheVariants.{TooLong}
 pub use Rattle.frame_reader.specs.All.{ahead, raw_of, room_of, HasStepped, IsMore, events_of}

@@ -1,12 +1,11 @@
 -- What a replay did: the schedule that it read, and the report of the schedule's run that it wrote.
 use Rattle.std.specs.Prelude.{◌≡◌, ◌≤◌, ◌<◌, ◌⊎◌, ◌≢◌, ⊤, ℕ, List, [], Option, Some, true, false, length}
-use Rattle.std.specs.List.{list_all}
 use Rattle.std.specs.Io.KnownBytes.{Appends, Consumes, IsAtEnd}
 use Rattle.ws_kinds.specs.ConfigValue.{ConfigValue}
 use Rattle.ws_kinds.specs.Recorder.{RecorderState}
 use Rattle.link_trait.specs.Link.{Rose, TellsAlike}
 use Rattle.mem_net.specs.MemNet.{MemNetState, net_state}
-use Rattle.mem_net.specs.Schedule.{is_sound, is_plain}
+use Rattle.mem_net.specs.Schedule.{is_sound}
 use Rattle.link_trait.specs.declared.act.Act.{Act}
 use Rattle.link_trait.specs.Sink.{AppendsFront}
 use Rattle.bus_handler.specs.Bus.{routes_of_bus}
@@ -94,7 +93,6 @@ pub record ReplayEnds (config : ConfigValue) (status : Status) (old new : Stream
 -- a net in memory follows these acts, and they are no more than a text has octets
 pub record CanRun (acts : List Act) : Type 0 where
   pub sound : is_sound acts ≡ true
-  pub plain : list_all is_plain acts ≡ true
   pub few : length acts ≤ 1048576
 
 -- what there is after a run of these acts: what can be written of it is its report

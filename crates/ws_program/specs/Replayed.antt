@@ -1,5 +1,5 @@
 -- What comes of a schedule that was run over a net in memory, with the built-in handler.
-use Rattle.std.specs.Prelude.{◌≡◌, ◌<◌, ◌+◌, ◌-◌, ◌^◌, ℕ, List, [], ◌∷◌, ◌++◌, Bool, true, false, nat_eq, length, map}
+use Rattle.std.specs.Prelude.{◌≡◌, ◌≢◌, ◌<◌, ◌+◌, Some, ◌-◌, ◌^◌, ℕ, List, [], ◌∷◌, ◌++◌, Bool, true, false, nat_eq, length, map}
 use Rattle.std.specs.List.{list_any, flat_map, AllByRecursion}
 use Rattle.ws_kinds.specs.ConfigValue.{ConfigValue}
 use Rattle.ws_kinds.specs.NoteValue.{NoteValue}
@@ -9,13 +9,13 @@ use Rattle.link_trait.specs.declared.act.Act.{Act}
 use Rattle.link_trait.specs.declared.act.Act.TheVariants as act
 use Rattle.link_trait.specs.declared.net.NetEvent.{NetEvent}
 use Rattle.link_trait.specs.declared.net.NetEvent.TheVariants as event
-use Rattle.mem_net.specs.Acts.{sent, passes}
+use Rattle.mem_net.specs.Acts.{sent, passes, credit_of}
 use Rattle.mem_net.specs.Schedule.{is_ending}
 use Rattle.link_trait.specs.NetState.{NetState}
 use Rattle.mem_net.specs.MemNet.{MemNetState, FollowsSchedule, net_state}
 use Rattle.route_table.specs.Table.{RouteTable}
 use Rattle.run_meaning.specs.Counts.{gather, accepted_by, is_accepted, is_gone_by_in}
-use Rattle.run_meaning.specs.Lines.{phase}
+use Rattle.run_meaning.specs.Lines.{is_gone_phase, phase}
 use Rattle.run_meaning.specs.Settled.{Settled, is_reading}
 use Rattle.run_meaning.specs.Right.{Right}
 use Rattle.run_meaning.specs.Replies.{AreReplies, HasReplies}
@@ -28,9 +28,10 @@ abbrev pub is_end_of : ℕ → Act → Bool
 is_end_of conn (act.End other) = nat_eq other.0 conn
 is_end_of conn _ = false
 
--- reads of the connection fail from this act on
+-- reads or writes of the connection fail from this act on
 abbrev pub is_fault_of : ℕ → Act → Bool
 is_fault_of conn (act.ReadFails other) = nat_eq other.0 conn
+is_fault_of conn (act.WriteFails other) = nat_eq other.0 conn
 is_fault_of conn _ = false
 
 -- nothing more comes
@@ -64,6 +65,8 @@ pub record IsReplayed (config : ConfigValue) (table : RouteTable) (acts : List A
   -- where an act says so
   pub ended : (conn : ℕ) → is_accepted conn notes ≡ true → is_gone_by_in conn PeerEnd notes ≡ true → (list_any (is_end_of conn) acts ≡ true) × (net.given conn ≡ sent conn acts)
   pub failed : (conn : ℕ) → is_accepted conn notes ≡ true → is_gone_by_in conn LinkFailed notes ≡ true → list_any (is_fault_of conn) acts ≡ true
+  -- while octets are held for a connection that is not gone, its link took exactly its credit and all room that it got
+  pub short : (conn : ℕ) → is_accepted conn notes ≡ true → is_gone_phase (phase (bus_server replies) notes conn) ≡ false → held conn ≢ [] → credit_of conn acts ≡ Some (length (net.taken conn))
 
 -- the links of the connections that were accepted, in order: how many octets are held, and those that were taken
 abbrev pub links_of : (ℕ → List ℕ) → (ℕ → List ℕ) → List NoteValue → List Link
@@ -87,7 +90,7 @@ pub record IsReport (config : ConfigValue) (table : RouteTable) (acts : List Act
   pub notes_in_range : AreNotes notes
   pub links_in_range : AreLinks (links_of held (net_state net).taken notes)
   pub acts_are : net.acts ≡ acts
-  -- no write failed, so a link is called failed only where a read of it failed
+  -- no write failed but by an act
   pub whole : net.whole ≡ true
   pub follows : FollowsSchedule net
   pub used : net.done ≡ length acts

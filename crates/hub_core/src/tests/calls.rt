@@ -1,7 +1,7 @@
 //! Single calls of a hub, each where its condition holds, and lists of them.
 
 ghost use Rattle.std.specs.Prelude.{◌≡◌, ◌<◌, ◌≤◌, ℕ, [], true, Some, IfSome};
-ghost use Rattle.ws_kinds.specs.declared.note.Phase.TheVariants.{Head, Open};
+ghost use Rattle.ws_kinds.specs.declared.note.Phase.TheVariants.{Ending, Head, Open};
 ghost use Rattle.hub_core.specs.At.{at};
 ghost use Rattle.hub_lines.specs.State.{phase_at};
 ghost use Rattle.hub_lines.specs.Calls.{Ties};
@@ -25,6 +25,7 @@ pub enum Call<'a> {
     Lost,
     /// At most 16 orders.
     Orders(&'a [Order<'a>]),
+    Writable,
     /// 65 orders: to subscribe to what is 1 to 65 times the octet 97. The last one is no topic.
     Topics,
     Tick,
@@ -102,6 +103,19 @@ fn of_open<N: Net, W: Watch>(hub: &mut Hub, out: &mut Outside<N, W>, conn: Conn,
         Call::Failed => hub.failed(out, conn, 1002),
         Call::Ended => hub.ended(out, conn),
         Call::Lost => hub.link_failed(out, conn),
+        Call::Writable => hub.writable(out, conn),
+        _ => {}
+    }
+}
+
+/// A call for a connection that is ending.
+fn of_ending<N: Net, W: Watch>(hub: &mut Hub, out: &mut Outside<N, W>, conn: Conn, call: Call<'_>)
+    requires phase { phase_at hub.old conn.0 ≡ Some Ending }
+    requires ties { Ties (at N.Net W.Watch hub.old out.old) }
+    ensures ties { Ties (at N.Net W.Watch hub.new out.new) }
+{
+    match call {
+        Call::Writable => hub.writable(out, conn),
         _ => {}
     }
 }
@@ -159,6 +173,7 @@ fn make<N: Net, W: Watch>(hub: &mut Hub, out: &mut Outside<N, W>, conn: Conn, ca
     match hub.phase(conn) {
         Some(Phase::Head) => of_head(hub, out, conn, call),
         Some(Phase::Open) => of_open(hub, out, conn, call),
+        Some(Phase::Ending) => of_ending(hub, out, conn, call),
         _ => {}
     }
 }

@@ -1,30 +1,12 @@
 //! What the tests work on: a net, a hub and a watch, and what became of them.
 
 ghost use Rattle.std.specs.Prelude.{◌≡◌, [], IfOk};
-ghost use Rattle.std.specs.List.{list_all};
-ghost use Rattle.mem_net.specs.Schedule as spec;
 
 use crate::Hub;
 use link_trait::{Act, Outside};
 use mem_net::{MemNet, Schedule};
 use std::test::*;
 use ws_kinds::{Config, Conn, Kind, Left, Note, Order, Recorder, Tally, Watch, Why};
-
-fn is_plain(act: &Act) -> bool
-    ensures { result ≡ spec.is_plain act.now }
-{
-    match act {
-        Act::Arrive { credit, .. } => credit.is_none(),
-        Act::Room { .. } | Act::WriteFails(_) => false,
-        _ => true,
-    }
-}
-
-fn are_plain(acts: &[Act]) -> bool
-    ensures { result ≡ list_all spec.is_plain acts.now }
-{
-    acts.iter().all(|act| is_plain(act))
-}
 
 /// A net on which six connections arrive, and a watch that keeps the notes.
 pub fn outside(rt: &HostRuntime) -> Result<Outside<MemNet, Recorder>, Fail> {
@@ -36,7 +18,7 @@ pub fn outside(rt: &HostRuntime) -> Result<Outside<MemNet, Recorder>, Fail> {
         };
         schedule.push(arrival).ok().ok_or("memory")?;
     }
-    if !schedule.sound() || !are_plain(schedule.acts()) {
+    if !schedule.sound() {
         return Err(Fail::new("the schedule"));
     }
     Ok(Outside {

@@ -29,6 +29,10 @@ const OLD_HEAD: &[u8] =
 const NONE_HEAD: &[u8] =
     b"GET /none HTTP/1.1\r\nHost: a\r\nUpgrade: websocket\r\nConnection: Upgrade\r\nSec-WebSocket-Key: dGhlIHNhbXBsZSBub25jZQ==\r\nSec-WebSocket-Version: 13\r\n\r\n";
 
+/// The head of a request for the room m.
+const ROOM_HEAD: &[u8] =
+    b"GET /room/m HTTP/1.1\r\nHost: a\r\nUpgrade: websocket\r\nConnection: Upgrade\r\nSec-WebSocket-Key: dGhlIHNhbXBsZSBub25jZQ==\r\nSec-WebSocket-Version: 13\r\n\r\n";
+
 /// A masked binary message of two octets.
 const TWO_OCTETS: &[u8] = b"\x82\x82\x01\x02\x03\x04\xfe\x02";
 
@@ -45,6 +49,7 @@ const FIELDS: usize = 5;
 /// Which lines of a report are compared.
 #[derive(Clone, Copy)]
 pub(super) enum Lines<'a> {
+    All,
     /// All but those of what a link took in one write.
     Whole,
     /// All of these but those of links.
@@ -53,6 +58,8 @@ pub(super) enum Lines<'a> {
     Orders,
     /// Those of what a link took in one write.
     Writes,
+    /// Those of what was dropped, and of links.
+    Backlog,
     /// Those of what was heard of the connection with these digits, and of its link.
     Heard(&'a [u8]),
 }
@@ -67,10 +74,12 @@ fn is_compared(lines: Lines<'_>, line: &[u8]) -> bool {
         return false;
     };
     match lines {
+        Lines::All => true,
         Lines::Whole => !is_among(word, &[b"took"]),
         Lines::Notes => !is_among(word, &[b"took", b"link"]),
         Lines::Orders => is_among(word, &[b"unserved", b"closed", b"gone", b"link"]),
         Lines::Writes => is_among(word, &[b"took"]),
+        Lines::Backlog => is_among(word, &[b"dropped", b"link"]),
         Lines::Heard(conn) => {
             words.next() == Some(conn) && !is_among(word, &[b"took", b"given", b"accept"])
         }
@@ -128,7 +137,9 @@ fn filled(rt: &HostRuntime, text: &str) -> Result<String, Fail> {
     let shorter = endless_head(rt, MAX_HEAD - 1)?;
     let full = head_of_fields(rt, MAX_FIELDS)?;
     let excess = head_of_fields(rt, MAX_FIELDS + 1)?;
-    let words: [(&str, &[u8]); 10] = [
+    let words: [(&str, &[u8]); 12] = [
+        ("ROOM", ROOM_HEAD),
+        ("MANY", &[0x41; 125]),
         ("HEAD", HEAD),
         ("REPLY", REPLY),
         ("OLD", OLD_HEAD),
@@ -308,6 +319,90 @@ fn schedules_have_their_reports(rt: HostRuntime) -> Result<(), Fail> {
         found.as_str(),
         "accept 1\nbusy 2\nturn\nturn\nlink 1 0 -\n"
     );
+    Ok(())
+}
+
+/// With a backlog of at most 10 octets and messages of at most 125: the acts of a schedule with links that take less than they are
+/// offered, or whose writes fail, and the lines of its report that are compared.
+const BACKLOGS: [(Lines<'static>, &str, &str); 9] = [
+    // what a link did not take is held, and goes out when it takes octets again
+    (
+        Lines::All,
+        "a 1 132\nr 1 HEAD\n.\nr 1 818537fa213d7f9f4d5158\n.\n",
+        "accept 1\ngiven 1 144\nopened 1 0 -\ntook 1 129 129\nturn\ngiven 1 11\ntext 1 48656c6c6f\ntook 1 7 3\nturn\nturn\nlink 1 4 REPLY810548\n",
+    ),
+    (
+        Lines::All,
+        "a 1 132\nr 1 HEAD\n.\nr 1 818537fa213d7f9f4d5158\n.\nw 1 4\n.\n",
+        "accept 1\ngiven 1 144\nopened 1 0 -\ntook 1 129 129\nturn\ngiven 1 11\ntext 1 48656c6c6f\ntook 1 7 3\nturn\ntook 1 4 4\nturn\nturn\nlink 1 0 REPLY810548656c6c6f\n",
+    ),
+    // over the limit a publication is dropped: the second one was put behind 7 octets, the third one comes at 14
+    (
+        Lines::All,
+        "a 1 *\nr 1 ROOM\na 2 129\nr 2 ROOM\n.\nr 1 81850000000048656c6c6f\nr 1 81850000000048656c6c6f\nr 1 81850000000048656c6c6f\n.\n",
+        "accept 1\ngiven 1 146\nopened 1 1 6d\ntook 1 129 129\naccept 2\ngiven 2 146\nopened 2 1 6d\ntook 2 129 129\nturn\ngiven 1 11\ntext 1 48656c6c6f\ntook 2 7 0\ngiven 1 11\ntext 1 48656c6c6f\ngiven 1 11\ntext 1 48656c6c6f\ndropped 2 3 14\nturn\nturn\nlink 1 0 REPLY\nlink 2 14 REPLY\n",
+    ),
+    // at the limit a frame is kept, and one octet over it it is dropped
+    (
+        Lines::Writes,
+        "a 1 129\nr 1 HEAD\nr 1 8288000000004141414141414141\nr 1 828100000000ff\nr 1 828100000000ff\nw 1 13\nw 1 10\n",
+        "took 1 129 129\ntook 1 10 0\ntook 1 13 13\n",
+    ),
+    (
+        Lines::All,
+        "a 1 129\nr 1 HEAD\nr 1 828900000000414141414141414141\nr 1 828100000000ff\n",
+        "accept 1\ngiven 1 144\nopened 1 0 -\ntook 1 129 129\ngiven 1 15\nbinary 1 414141414141414141\ntook 1 11 0\ngiven 1 7\nbinary 1 ff\ndropped 1 2 11\nturn\nlink 1 11 REPLY\n",
+    ),
+    // a ring of 647 octets is cut after 12 octets: the first part is taken short, and then each part in a write of its own
+    (
+        Lines::Writes,
+        "a 1 129\nr 1 HEAD\nr 1 82fd00000000MANY\nw 1 127\nr 1 82fd00000000MANY\nw 1 127\nr 1 82fd00000000MANY\nw 1 127\nr 1 82fd00000000MANY\nw 1 127\nr 1 82fd00000000MANY\nw 1 127\nr 1 82fd00000000MANY\nw 1 5\nw 1 200\n",
+        "took 1 129 129\ntook 1 127 0\ntook 1 127 127\ntook 1 127 0\ntook 1 127 127\ntook 1 127 0\ntook 1 127 127\ntook 1 127 0\ntook 1 127 127\ntook 1 127 0\ntook 1 127 127\ntook 1 127 0\ntook 1 12 5\ntook 1 7 7\ntook 1 115 115\n",
+    ),
+    // a close frame is put behind a backlog over the limit, and the connection is finished once its link took all
+    (
+        Lines::All,
+        "a 1 129\nr 1 HEAD\nr 1 82fd00000000MANY\nr 1 828100000000ff\n.\nr 1 88820000000003e8\n.\nw 1 131\n.\n",
+        "accept 1\ngiven 1 144\nopened 1 0 -\ntook 1 129 129\ngiven 1 131\nbinary 1 MANY\ntook 1 127 0\ngiven 1 7\nbinary 1 ff\ndropped 1 2 127\nturn\ngiven 1 8\npeerclose 1 1000 -\nclosed 1 1000 -\nturn\ntook 1 131 131\ngone 1 finished\nturn\nturn\nlink 1 0 REPLY827dMANY880203e8\n",
+    ),
+    // a link fails while octets over the limit are held for it
+    (
+        Lines::All,
+        "a 1 129\nr 1 HEAD\nr 1 82fd00000000MANY\n.\nb 1\n.\n",
+        "accept 1\ngiven 1 144\nopened 1 0 -\ntook 1 129 129\ngiven 1 131\nbinary 1 MANY\ntook 1 127 0\nturn\ngone 1 linkfailed\nclosed 1 1006 -\nturn\nturn\nlink 1 0 REPLY\n",
+    ),
+    // one link fails in a publication, and the other receivers get it
+    (
+        Lines::Notes,
+        "a 1 *\nr 1 ROOM\na 2 *\nr 2 ROOM\na 3 *\nr 3 ROOM\na 4 *\nr 4 ROOM\n.\nb 3\nr 1 81810000000041\n.\n",
+        "accept 1\ngiven 1 146\nopened 1 1 6d\naccept 2\ngiven 2 146\nopened 2 1 6d\naccept 3\ngiven 3 146\nopened 3 1 6d\naccept 4\ngiven 4 146\nopened 4 1 6d\nturn\ngiven 1 7\ntext 1 41\ngone 3 linkfailed\nclosed 3 1006 -\nturn\nturn\n",
+    ),
+];
+
+/// A room in which one link takes nothing behind the reply, over so many turns with a message of 5 octets each.
+fn stalled_room(rt: &HostRuntime, turns: u64) -> Result<String, Fail> {
+    let mut acts = String::from_str(rt.alloc(), "a 1 *\nr 1 ROOM\na 2 129\nr 2 ROOM\n.\n")?;
+    for _ in 0..turns {
+        acts.push_str("r 1 81850000000048656c6c6f\n.\n")?;
+    }
+    filled(rt, &acts)
+}
+
+/// A backlog is held, drained and bounded.
+#[test]
+fn a_backlog_has_a_limit(rt: HostRuntime) -> Result<(), Fail> {
+    let config = Config::checked(125, 10, 30, 60, 10, 4).ok_or("a configuration")?;
+    for (lines, acts, report) in BACKLOGS {
+        let found = report_of(&rt, config, lines, &filled(&rt, acts)?)?;
+        assert_eq!(rt; found.as_str(), filled(&rt, report)?.as_str(), "{acts}");
+    }
+    let found = report_of(&rt, config, Lines::Backlog, &stalled_room(&rt, 200)?)?;
+    let mut wanted = String::new(rt.alloc());
+    for index in 3..=200 {
+        wanted.push_str(&format!(in rt.alloc(); "dropped 2 {index} 14\n")?)?;
+    }
+    wanted.push_str(&filled(&rt, "link 1 0 REPLY\nlink 2 14 REPLY\n")?)?;
+    assert_eq!(rt; found.as_str(), wanted.as_str());
     Ok(())
 }
 

@@ -1,4 +1,4 @@
-use Rattle.hub_table.proofs.All.{◌≡◌, Some, rules, sym, ap, ◌∙◌, subst, unwrap_or, get, with_value, Connection, no_connection, PassesOctets, stored_at, stored_written, [], ◌≢◌, true, false, Failed}
+use Rattle.hub_table.proofs.All.{◌≡◌, Some, rules, sym, ap, ◌∙◌, subst, [], ◌≢◌, true, false, unwrap_or, get, with_value, Connection, no_connection, PassesOctets, stored_at, stored_written}
 use Rattle.hub_table.proofs.changes.writable.Goals as goal
 
 pub returns-clause-passes : goal.returns-clause-passes

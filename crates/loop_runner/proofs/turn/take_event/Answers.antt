@@ -1,4 +1,4 @@
-use Rattle.loop_runner.proofs.All.{refl, server, beginning, moment, grows_next, turns_same, running_freed, steps_makes, keep_readable, keep_tick, keep_writable, links_next, passes_next, there_next, event_between, event_ended}
+use Rattle.loop_runner.proofs.All.{refl, server, beginning, moment, running_freed, steps_makes, keep_readable, keep_tick, keep_freed, there_next, event_between, event_ended, steps_freed}
 use Rattle.link_trait.specs.declared.net.NetEvent.TheVariants as event
 use Rattle.loop_runner.specs.declared.turn.Turned.TheVariants as turned
 use Rattle.loop_runner.proofs.turn.take_event.Goals as goal
@@ -36,24 +36,20 @@ returns-in-Tick g c =
     (λ few start config views are k. (views, are, keep_tick (beginning g.H.Handler start config c.args.routes.now) c.args.hub.now (g.N.Net.state c.args.out.now.net) _ _ _ views _ c.requires.none next few ticked.makes ticked.appends ticked.table k))
     (λ there. steps.there (there_next _ c.args.hub.now _ _ (g.W.Watch.told c.args.out.now.watch) next next.event.links.live there)) c.close_all-in-Tick.ensures.keeps c.close_all-in-Tick.ensures.none
 
+pub close_all-requires-in-Writable : goal.close_all-requires-in-Writable
+close_all-requires-in-Writable g c = record { running = running_freed _ _ _ _ _ _ _ c.requires.running c.in-Writable.ensures.event c.offer.ensures }
+
 pub returns-in-Writable : goal.returns-in-Writable
 returns-in-Writable g c =
     let next = c.in-Writable.ensures in
-    record {
-      between = record {
-        running = running_freed _ _ _ _ _ _ c.requires.running next.event c.no_rings.ensures;
-        none = c.requires.none;
-        fell = next.event.room;
-        passed = passes_next (event.Writable c.in-Writable.field-0) _ _ next refl;
-        turns = turns_same (g.W.Watch.told c.args.out.now.watch);
-      };
-      ended = tt {0};
-      grows = grows_next _ _ _ _ _ next;
-      links = links_next (event.Writable c.in-Writable.field-0) c.args.hub.now (g.N.Net.state c.args.out.now.net) (g.N.Net.state c.next.new.self) (g.W.Watch.told c.args.out.now.watch) next;
-      there = λ there. there_next _ c.args.hub.now _ _ (g.W.Watch.told c.args.out.now.watch) next next.event.live there;
-      kept = λ start config views few are k. (views, are, keep_writable (beginning g.H.Handler start config c.args.routes.now) c.args.hub.now (g.N.Net.state c.args.out.now.net) _ _ _ views _ next k);
-      settled = tt {0};
-    }
+    let steps = steps_freed _ _ _ c.offer.ensures in
+    event_between c.args.routes.now (event.Writable c.in-Writable.conn) (g.N.Net.state c.args.out.now.net) c.args.intakes.now c.args.intakes.now c.close_all-in-Writable.new.intakes
+    (record { server = server c.args.hub.now (g.N.Net.state c.next.new.self) (g.W.Watch.told c.args.out.now.watch); now = g.H.Handler.state c.args.handler.now })
+    (moment g.N.Net g.W.Watch g.H.Handler c.offer.new.hub c.offer.new.out c.args.handler.now)
+    (moment g.N.Net g.W.Watch g.H.Handler c.close_all-in-Writable.new.hub c.close_all-in-Writable.new.out c.close_all-in-Writable.new.handler)
+    next refl next.event.room steps.onward
+    (λ few start config views are k. (views, are, keep_freed (beginning g.H.Handler start config c.args.routes.now) c.args.hub.now (g.N.Net.state c.args.out.now.net) _ _ _ views _ _ next c.offer.ensures k))
+    (λ there. steps.there (there_next _ c.args.hub.now _ _ (g.W.Watch.told c.args.out.now.watch) next next.event.live there)) c.close_all-in-Writable.ensures.keeps c.close_all-in-Writable.ensures.none
 
 pub returns-in-Turn : goal.returns-in-Turn
 returns-in-Turn g c = event_ended c.args.routes.now turned.Turn (g.N.Net.state c.args.out.now.net) c.args.intakes.now c.end_turn.new.intakes

@@ -1,4 +1,4 @@
-use Rattle.made_schedule.proofs.All.{[], ◌∷◌, ◌∙◌, ap, list_all, Turn, is_plain, is_sound, openings, rounds, made_open, put_three}
+use Rattle.made_schedule.proofs.All.{[], ◌∷◌, ◌∙◌, ap, Turn, is_sound, openings, rounds, made_open, put_three}
 use Rattle.made_schedule.proofs.schedule.made.Goals as goal
 
 pub returns-clause-acts : goal.returns-clause-acts
@@ -7,6 +7,3 @@ returns-clause-acts c = put_three c.new-schedule.result c.push_openings.new.sche
 
 pub returns-clause-sound : goal.returns-clause-sound
 returns-clause-sound c = ap is_sound (returns-clause-acts c) ∙ (made_open c.args.seed).sound
-
-pub returns-clause-plain : goal.returns-clause-plain
-returns-clause-plain c = ap (list_all is_plain) (returns-clause-acts c) ∙ (made_open c.args.seed).plain

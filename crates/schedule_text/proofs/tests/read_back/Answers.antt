@@ -2,7 +2,7 @@ use Rattle.schedule_text.proofs.All.{◌≡◌, ℕ, List, ◌++◌, refl, ap, �
 use Rattle.schedule_text.proofs.tests.read_back.Goals as goal
 
 pub returns : goal.returns
-returns c = λ plain short empty.
+returns c = λ short empty.
     let text : List ℕ = schedule_text c.args.schedule.now in
     let written : c.print.new.sink.written ≡ text = c.if-not-print.ensures.written.0 ∙ ap (λ (v : List ℕ). v ++ text) empty in
-    reads_back c.args.schedule.now c.octets.result.now c.read.result c.ok.result (c.octets.ensures ∙ written) (c.if-not-print.ensures.again refl short plain) c.read.ensures.every_text c.ok.ensures.value
+    reads_back c.args.schedule.now c.octets.result.now c.read.result c.ok.result (c.octets.ensures ∙ written) (c.if-not-print.ensures.again refl short) c.read.ensures.every_text c.ok.ensures.value

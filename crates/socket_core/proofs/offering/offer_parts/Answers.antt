@@ -1,5 +1,4 @@
-use Rattle.socket_core.proofs.Below.{rules, refl, ◌≡◌, ◌≢◌, ◌<◌, ◌≤◌, ◌+◌, ℕ, List, Option, Some, None, [], length, sym, ap, ◌∙◌, subst, arith, Offers, OffersParts}
-use Rattle.socket_core.proofs.HandLemmas.{parts_back, parts_first, parts_both, parts_failed, parts_failed_last, none_is}
+use Rattle.socket_core.proofs.All.{rules, refl, ◌≡◌, ◌≢◌, ◌<◌, ◌≤◌, ◌+◌, ℕ, List, Option, Some, None, [], length, sym, ap, ◌∙◌, subst, arith, Offers, OffersParts, parts_back, parts_first, parts_both, parts_failed, parts_failed_last, none_is}
 use Rattle.socket_core.proofs.offering.offer_parts.Goals as goal
 use Rattle.socket_core.proofs.offering.offer_parts.Goals.{then-count-front-via-then-count-front, then-count-front-via-else-count-front+then-is_empty-2}
 

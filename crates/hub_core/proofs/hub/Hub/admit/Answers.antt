@@ -5,6 +5,6 @@ pub returns : goal.returns
 returns g c =
     let e = c.enter.ensures in
     rw (← c.self.view_is) (sends_noted
-    (head_notices c.args.conn.0 (opened c.args.conn.0 c.args.route c.args.param.now) Open c.self.inside.table c.enter.new.self c.self.inside.topics (g.N.Net.state c.args.out.now.net) (g.W.Watch.told c.args.out.now.watch) (g.W.Watch.told c.note.new.self) c.self.invariant
+    (head_notices c.args.conn.0 (opened c.args.conn.0 c.args.route c.args.param.now) Open c.self.inside.table c.enter.new.self c.self.inside.topics c.self.inside.tellings (g.N.Net.state c.args.out.now.net) (g.W.Watch.told c.args.out.now.watch) (g.W.Watch.told c.note.new.self) c.self.invariant
     (ap (λ (z : HubState). phase_at z c.args.conn.0) c.self.view_is ∙ c.requires.phase) e.entry e.due e.elsewhere c.note.ensures refl (λ due. refl) refl refl (λ d. refl) (of_here c.args.conn.0) (λ d ne. of_other c.args.conn.0 d ne) (opened_untold c.args.conn.0 c.args.route c.args.param.now) (opened_elsewhere c.args.conn.0 c.args.route c.args.param.now))
     (sends_put (replied c.args.reply.now) c.put.ensures refl))

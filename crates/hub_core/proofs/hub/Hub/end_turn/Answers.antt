@@ -1,4 +1,4 @@
-use Rattle.hub_core.proofs.All.{◌≡◌, ◌≢◌, ◌<◌, ◌≤◌, ℕ, [], refl, sym, ap, ◌∙◌, subst, Ending, nothing_told, HubState, server, entry_at, ring_at, tell_at, IsTable, table_of, none_at_zero, finishing_step, finishing_ends, appends_finished, none_told, is_known}
+use Rattle.hub_core.proofs.All.{◌≡◌, ◌≢◌, ◌<◌, ◌≤◌, ℕ, refl, sym, ap, ◌∙◌, subst, Ending, HubState, server, entry_at, nothing, Appends, EndsTurn, IsTable, table_of, none_at_zero, finishing_step, finishing_ends, appends_finished, is_known}
 use Rattle.hub_core.proofs.hub.Hub.end_turn.Goals as goal
 
 pub walk-init : goal.walk-init
@@ -23,10 +23,11 @@ walk-preserved g c =
 
 pub returns-clause-ends : goal.returns-clause-ends
 returns-clause-ends g c =
-    let rings : (d : ℕ) → ring_at c.walk.self d ≡ [] = subst (λ (z : HubState). (d : ℕ) → ring_at z d ≡ []) c.self-2.view_is c.no_rings.ensures in
-    let none : (d : ℕ) → tell_at c.walk.self d ≡ nothing_told = subst (λ (z : HubState). (d : ℕ) → tell_at z d ≡ nothing_told) c.self-in-walk.view_is (λ d. refl) in
-    finishing_ends c.walk.invariant.finishing c.walk.self.tellings (g.W.Watch.told c.note.new.self) c.note.ensures
-    (subst (λ (z : HubState). (d : ℕ) → c.walk.after.0 < d → (entry_at z d).phase ≢ Ending) c.self-in-walk.view_is c.in_default.ensures) (none_told c.walk.self rings none)
+    subst (λ (z : HubState). EndsTurn (server c.args.self.now (g.N.Net.state c.args.out.now.net) (g.W.Watch.told c.args.out.now.watch)) (server z (g.N.Net.state c.walk.out.net) (g.W.Watch.told c.note.new.self))) (sym c.settle.ensures.others)
+    (finishing_ends c.walk.invariant.finishing c.settle.new.self.tellings (g.W.Watch.told c.note.new.self) c.note.ensures
+    (subst (λ (z : HubState). (d : ℕ) → c.walk.after.0 < d → (entry_at z d).phase ≢ Ending) c.self-in-walk.view_is c.in_default.ensures) c.settle.ensures.told)
 
 pub returns-clause-appends : goal.returns-clause-appends
-returns-clause-appends g c = appends_finished c.walk.invariant.finishing c.walk.self.tellings (g.W.Watch.told c.note.new.self) c.note.ensures
+returns-clause-appends g c =
+    subst (λ (z : HubState). Appends nothing (server c.args.self.now (g.N.Net.state c.args.out.now.net) (g.W.Watch.told c.args.out.now.watch)) (server z (g.N.Net.state c.walk.out.net) (g.W.Watch.told c.note.new.self))) (sym c.settle.ensures.others)
+    (appends_finished c.walk.invariant.finishing c.settle.new.self.tellings (g.W.Watch.told c.note.new.self) c.note.ensures)

@@ -3,13 +3,13 @@ use Rattle.hub_core.proofs.hub.Hub.leave.Goals as goal
 
 pub returns : goal.returns
 returns g c =
-    let left : Leaves c.args.conn.0 c.args.left (server (hub_of c.self.inside.table c.self.inside.topics) (g.N.Net.state c.args.out.now.net) (g.W.Watch.told c.args.out.now.watch)) (server (hub_of c.leave.new.self c.drop_conn.new.self) (g.N.Net.state c.shut.new.self) (g.W.Watch.told c.note.new.self)) =
+    let left : Leaves c.args.conn.0 c.args.left (server (hub_of c.self.inside.table c.self.inside.topics c.self.inside.tellings) (g.N.Net.state c.args.out.now.net) (g.W.Watch.told c.args.out.now.watch)) (server (hub_of c.leave.new.self c.drop_conn.new.self c.forget.new.self) (g.N.Net.state c.shut.new.self) (g.W.Watch.told c.note.new.self)) =
     record {
       gone = c.leave.ensures.gone;
       due = c.leave.ensures.due;
       topics = topics_here c.args.conn.0 (λ _. []) c.self.inside.topics c.drop_conn.new.self c.drop_conn.ensures ∙ topics_end (entry_of c.self.inside.table.entries c.args.conn.0).phase (topics_of c.self.inside.topics c.args.conn.0) (c.self.invariant.topics c.args.conn.0);
-      tells = refl;
-      change = plain_change c.self.inside.topics c.drop_conn.new.self c.leave.ensures.elsewhere (topics_elsewhere c.args.conn.0 (λ _. []) c.self.inside.topics c.drop_conn.new.self c.drop_conn.ensures);
+      tells = c.forget.ensures.row.tell_is;
+      change = plain_change c.self.inside.topics c.drop_conn.new.self c.self.inside.tellings c.forget.new.self c.leave.ensures.elsewhere (topics_elsewhere c.args.conn.0 (λ _. []) c.self.inside.topics c.drop_conn.new.self c.drop_conn.ensures) c.forget.ensures.row.others;
       shuts = c.shut.ensures;
       noted = c.note.ensures;
     } in

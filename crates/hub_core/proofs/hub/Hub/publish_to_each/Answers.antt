@@ -9,7 +9,7 @@ walk-init g c = record {
   config = refl;
   table = subst (λ (z : HubState). IsTable (table_of z)) c.self.view_is c.self.invariant.table;
   so_far = publishes_none (number_in c.args.from) c.args.topic.now c.args.kind c.args.body.now (server c.args.self.now (g.N.Net.state c.args.out.now.net) (g.W.Watch.told c.args.out.now.watch))
-      (subst (λ (z : HubState). topics_of z.pairs 0 ≡ []) c.self.view_is (zero_topics c.self.inside.table c.self.inside.topics c.self.invariant));
+      (subst (λ (z : HubState). topics_of z.pairs 0 ≡ []) c.self.view_is (zero_topics c.self.inside.table c.self.inside.topics c.self.inside.tellings c.self.invariant));
 }
 
 pub walk-preserved : goal.walk-preserved
@@ -18,7 +18,7 @@ walk-preserved g c =
     let here : IsNext (is_pair c.self-in-walk.inside.topics c.args.topic.now) c.walk.after.0 conn = c.in-Some.ensures.some in
     let next : IsNext (is_pair c.walk.self.pairs c.args.topic.now) c.walk.after.0 conn = subst (λ (z : HubState). IsNext (is_pair z.pairs c.args.topic.now) c.walk.after.0 conn) c.self-in-walk.view_is here in
     let there : is_present c.walk.self conn ≡ true = subst (λ (z : HubState). is_present z conn ≡ true) c.self-in-walk.view_is
-    (subscriber_present c.self-in-walk.inside.table c.self-in-walk.inside.topics c.args.topic.now conn c.self-in-walk.invariant here.has) in
+    (subscriber_present c.self-in-walk.inside.table c.self-in-walk.inside.topics c.self-in-walk.inside.tellings c.args.topic.now conn c.self-in-walk.invariant here.has) in
     let old : Server = server c.args.self.now (g.N.Net.state c.args.out.now.net) (g.W.Watch.told c.args.out.now.watch) in
     let mid : Server = server c.walk.self (g.N.Net.state c.walk.out.net) (g.W.Watch.told c.walk.out.watch) in
     let new : Server = server c.publish_to.new.self (g.N.Net.state c.publish_to.new.out.net) (g.W.Watch.told c.publish_to.new.out.watch) in

@@ -9,7 +9,7 @@ returns g c =
     record {
       ties = put_ties p c.requires.ties;
       proceeds = put_proceeds p there well;
-      appends = put_appends p there well;
+      appends = λ sent s. put_appends c.args.item p sent s there well;
       elsewhere = put_elsewhere p;
       kept = put_tells p there well;
       config = p.elsewhere.table.config;
@@ -28,7 +28,7 @@ returns-then-eq g c =
     record {
       ties = fail_ties p x.leaves there c.requires.ties;
       proceeds = fail_proceeds p x.leaves there;
-      appends = fail_appends p x.leaves there;
+      appends = fail_appends c.args.item p x.leaves there;
       elsewhere = fail_elsewhere p x.leaves there;
       kept = x.away;
       config = search rules;

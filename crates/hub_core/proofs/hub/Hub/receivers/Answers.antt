@@ -10,7 +10,7 @@ pub walk-init : goal.walk-init
 walk-init c = record {
   few = omega arith;
   below = omega arith;
-  count = subst (λ (z : HubState). 0 ≡ count_below (receives z.pairs (number_in c.args.from) c.args.topic.now) (suc 0)) c.self.view_is (count_begins c.self.inside.topics (number_in c.args.from) c.args.topic.now (zero_topics c.self.inside.table c.self.inside.topics c.self.invariant));
+  count = subst (λ (z : HubState). 0 ≡ count_below (receives z.pairs (number_in c.args.from) c.args.topic.now) (suc 0)) c.self.view_is (count_begins c.self.inside.topics (number_in c.args.from) c.args.topic.now (zero_topics c.self.inside.table c.self.inside.topics c.self.inside.tellings c.self.invariant));
 }
 
 pub walk-preserved : goal.walk-preserved
@@ -18,7 +18,7 @@ walk-preserved c =
     let here : IsNext (is_pair c.self.inside.topics c.args.topic.now) c.walk.after.0 c.in-Some.conn.0 = c.in-Some.ensures.some in
     record {
       few = one_further c.walk.count c.walk.after.0 c.in-Some.conn.0 c.with_receiver-count.result (is_sender (number_in c.args.from) c.in-Some.conn.0) c.walk.invariant.few here.above c.with_receiver-count.ensures;
-      below = subst (λ (z : HubState). c.in-Some.conn.0 ≤ z.named) c.self.view_is (subscriber_known c.self.inside.table c.self.inside.topics c.args.topic.now c.in-Some.conn.0 c.self.invariant here.has);
+      below = subst (λ (z : HubState). c.in-Some.conn.0 ≤ z.named) c.self.view_is (subscriber_known c.self.inside.table c.self.inside.topics c.self.inside.tellings c.args.topic.now c.in-Some.conn.0 c.self.invariant here.has);
       count = count_next c.args.self.now.pairs (number_in c.args.from) c.args.topic.now c.walk.after.0 c.in-Some.conn.0 c.walk.count c.with_receiver-count.result c.walk.invariant.count
           (subst (λ (z : HubState). IsNext (is_pair z.pairs c.args.topic.now) c.walk.after.0 c.in-Some.conn.0) c.self.view_is here) c.with_receiver-count.ensures;
     }

@@ -8,6 +8,6 @@ returns-in-Some g c =
 
 pub returns-in-None : goal.returns-in-None
 returns-in-None g c =
-    let topics : TopicsEnd (server c.args.self.now (g.N.Net.state c.args.out.now.net) (g.W.Watch.told c.args.out.now.watch)) = rw (← c.self.view_is) (open_alone c.self.inside.table c.self.inside.topics (g.N.Net.state c.args.out.now.net) (g.W.Watch.told c.args.out.now.watch) c.self.invariant) in
+    let topics : TopicsEnd (server c.args.self.now (g.N.Net.state c.args.out.now.net) (g.W.Watch.told c.args.out.now.watch)) = rw (← c.self.view_is) (open_alone c.self.inside.table c.self.inside.topics c.self.inside.tellings (g.N.Net.state c.args.out.now.net) (g.W.Watch.told c.args.out.now.watch) c.self.invariant) in
     order_published c.args.conn.0 c.args.number c.args.topic.now c.args.kind c.args.body.now (server c.args.self.now (g.N.Net.state c.args.out.now.net) (g.W.Watch.told c.args.out.now.watch)) (server c.publish_to_each.new.self (g.N.Net.state c.publish_to_each.new.out.net) (g.W.Watch.told c.publish_to_each.new.out.watch))
     (sym c.publish_refusal.ensures ∙ c.in-None.is) topics c.publish_to_each.ensures

@@ -8,7 +8,7 @@ returns-in-Err g c =
 
 pub returns-in-Ok : goal.returns-in-Ok
 returns-in-Ok g c =
-    let topics : TopicsEnd (server c.args.self.now (g.N.Net.state c.args.out.now.net) (g.W.Watch.told c.args.out.now.watch)) = rw (← c.self.view_is) (open_alone c.self.inside.table c.self.inside.topics (g.N.Net.state c.args.out.now.net) (g.W.Watch.told c.args.out.now.watch) c.self.invariant) in
+    let topics : TopicsEnd (server c.args.self.now (g.N.Net.state c.args.out.now.net) (g.W.Watch.told c.args.out.now.watch)) = rw (← c.self.view_is) (open_alone c.self.inside.table c.self.inside.topics c.self.inside.tellings (g.N.Net.state c.args.out.now.net) (g.W.Watch.told c.args.out.now.watch) c.self.invariant) in
     record {
       ties = c.send.ensures.ties;
       serves = sent c.args.self.now.config _ c.args.conn.0 c.args.number (server c.args.self.now (g.N.Net.state c.args.out.now.net) (g.W.Watch.told c.args.out.now.watch)) (server c.send.new.self (g.N.Net.state c.send.new.out.net) (g.W.Watch.told c.send.new.out.watch)) c.args.to.0 c.args.kind c.args.body.now

@@ -21,18 +21,18 @@ the_reason why other e = ap (reason_in other) e
 pub returns-in-Ok : goal.returns-in-Ok
 returns-in-Ok g c =
     let own : HubState → Standing = λ z. standings_at z c.args.conn.0 in
-    let none : why_unsubscribe (own (hub_of c.self.inside.table c.self.inside.topics)).phase c.args.topic.now ≡ None = subst (λ (z : HubState). why_unsubscribe (own z).phase c.args.topic.now ≡ None) (sym c.self.view_is) c.requires.fits in
-    let ties : Ties (server (hub_of c.self.inside.table c.self.inside.topics) (g.N.Net.state c.args.out.now.net) (g.W.Watch.told c.args.out.now.watch)) = subst (λ (z : HubState). Ties (server z (g.N.Net.state c.args.out.now.net) (g.W.Watch.told c.args.out.now.watch))) (sym c.self.view_is) c.requires.ties in
+    let none : why_unsubscribe (own (hub_of c.self.inside.table c.self.inside.topics c.self.inside.tellings)).phase c.args.topic.now ≡ None = subst (λ (z : HubState). why_unsubscribe (own z).phase c.args.topic.now ≡ None) (sym c.self.view_is) c.requires.fits in
+    let ties : Ties (server (hub_of c.self.inside.table c.self.inside.topics c.self.inside.tellings) (g.N.Net.state c.args.out.now.net) (g.W.Watch.told c.args.out.now.watch)) = subst (λ (z : HubState). Ties (server z (g.N.Net.state c.args.out.now.net) (g.W.Watch.told c.args.out.now.watch))) (sym c.self.view_is) c.requires.ties in
     let few = many_not (has_topic c.args.topic.now (topics_of c.self.inside.topics c.args.conn.0)) (length (topics_of c.self.inside.topics c.args.conn.0)) (λ both. never c.in-Ok.field-0 TooMany (c.in-Ok.ensures.too_many.1 both)) in
-    rw (← c.self.view_is) (topics_served c.self.inside.table c.self.inside.topics c.subscribe.new.self (g.N.Net.state c.args.out.now.net) (g.W.Watch.told c.args.out.now.watch) c.args.conn.0 c.args.number (subscribe c.args.topic.now) (with_topic c.args.topic.now)
-    c.self.invariant (fits (own (hub_of c.self.inside.table c.self.inside.topics)) c.args.topic.now none).0 c.in-Ok.ensures.topics (λ d x. refl) refl
-    (subscribe_fits (own (hub_of c.self.inside.table c.self.inside.topics)) c.args.topic.now none ∙ ap (λ (z : Bool). cond z (Some TooMany) None) few) ties)
+    rw (← c.self.view_is) (topics_served c.self.inside.table c.self.inside.topics c.subscribe.new.self c.self.inside.tellings (g.N.Net.state c.args.out.now.net) (g.W.Watch.told c.args.out.now.watch) c.args.conn.0 c.args.number (subscribe c.args.topic.now) (with_topic c.args.topic.now)
+    c.self.invariant (fits (own (hub_of c.self.inside.table c.self.inside.topics c.self.inside.tellings)) c.args.topic.now none).0 c.in-Ok.ensures.topics (λ d x. refl) refl
+    (subscribe_fits (own (hub_of c.self.inside.table c.self.inside.topics c.self.inside.tellings)) c.args.topic.now none ∙ ap (λ (z : Bool). cond z (Some TooMany) None) few) ties)
 
 pub returns-in-Err : goal.returns-in-Err
 returns-in-Err g c =
     let own : HubState → Standing = λ z. standings_at z c.args.conn.0 in
-    let none : why_unsubscribe (own (hub_of c.self.inside.table c.self.inside.topics)).phase c.args.topic.now ≡ None = subst (λ (z : HubState). why_unsubscribe (own z).phase c.args.topic.now ≡ None) (sym c.self.view_is) c.requires.fits in
-    let same : server (hub_of c.self.inside.table c.subscribe.new.self) (g.N.Net.state c.args.out.now.net) (g.W.Watch.told c.args.out.now.watch) ≡ server (hub_of c.self.inside.table c.self.inside.topics) (g.N.Net.state c.args.out.now.net) (g.W.Watch.told c.args.out.now.watch) = ap (λ (z : List (ℕ × List ℕ)). server (hub_of c.self.inside.table z) (g.N.Net.state c.args.out.now.net) (g.W.Watch.told c.args.out.now.watch)) c.in-Err.ensures.refused in
+    let none : why_unsubscribe (own (hub_of c.self.inside.table c.self.inside.topics c.self.inside.tellings)).phase c.args.topic.now ≡ None = subst (λ (z : HubState). why_unsubscribe (own z).phase c.args.topic.now ≡ None) (sym c.self.view_is) c.requires.fits in
+    let same : server (hub_of c.self.inside.table c.subscribe.new.self c.self.inside.tellings) (g.N.Net.state c.args.out.now.net) (g.W.Watch.told c.args.out.now.watch) ≡ server (hub_of c.self.inside.table c.self.inside.topics c.self.inside.tellings) (g.N.Net.state c.args.out.now.net) (g.W.Watch.told c.args.out.now.watch) = ap (λ (z : List (ℕ × List ℕ)). server (hub_of c.self.inside.table z c.self.inside.tellings) (g.N.Net.state c.args.out.now.net) (g.W.Watch.told c.args.out.now.watch)) c.in-Err.ensures.refused in
     rw (← c.self.view_is) (refused_by c.args.conn.0 c.args.number (subscribe c.args.topic.now) c.in-Err.why same c.unserved.ensures c.self.invariant.table
-    (subscribe_unstored (own (hub_of c.self.inside.table c.self.inside.topics)) c.args.topic.now c.in-Err.why none c.in-Err.ensures.reasons
+    (subscribe_unstored (own (hub_of c.self.inside.table c.self.inside.topics c.self.inside.tellings)) c.args.topic.now c.in-Err.why none c.in-Err.ensures.reasons
     (λ many. c.in-Err.ensures.too_many.0 (ap Err many)) (λ both. the_reason c.in-Err.why TooMany (c.in-Err.ensures.too_many.1 both)) (λ memory. c.in-Err.ensures.memory (ap Err memory))))

@@ -1,5 +1,4 @@
-use Rattle.std.proofs.Common.{◌&&◌}
-use Rattle.hub_table.proofs.All.{◌≡◌, ◌≢◌, true, false, [], refl, sym, ap, ◌∙◌, subst, with_value, has_entry, Connection, connection_of, entries_of, replaced, with_socket, is_ending, PassesOctets, ConnectionMapState, stored_at, listed, IsIndexed, own_number, replaced_here, has_key, under_key, stored_of, index_written, ending_stays, ℕ, IsPuttable, can_drop, octets_of, ◌∷◌, nat_lt, length, ◌+◌, ◌≤◌, most_held, is_drop}
+use Rattle.hub_table.proofs.All.{◌&&◌, ◌≡◌, ◌≢◌, true, false, [], refl, sym, ap, ◌∙◌, subst, with_value, has_entry, Connection, connection_of, entries_of, replaced, with_socket, is_ending, PassesOctets, ConnectionMapState, stored_at, listed, IsIndexed, own_number, replaced_here, has_key, under_key, stored_of, index_written, ending_stays, ℕ, IsPuttable, can_drop, octets_of, ◌∷◌, nat_lt, length, ◌+◌, ◌≤◌, most_held, subst₂, CountsRinged, OffersOnce}
 use Rattle.hub_table.proofs.MapLemmas.{due_stays}
 use Rattle.hub_table.proofs.connection_map.ConnectionMap.put.Given as given
 use Rattle.hub_table.proofs.connection_map.ConnectionMap.put.Goals as goal
@@ -56,14 +55,18 @@ returns-clause-all g c = rw (← c.self.view_is) ((now g c).1 ∙ ap (λ (z : Co
 
 pub returns-clause-passes : goal.returns-clause-passes
 returns-clause-passes g c = rw (← c.self.view_is)
-    (subst (λ (z : Connection). PassesOctets c.args.conn.0 (connection_of (listed c.self.inside.connections c.self.inside.keys.entries) c.args.conn.0).socket.config.limit (can_drop c.args.item) (octets_of c.args.item ∷ []) c.put.result (connection_of (listed c.self.inside.connections c.self.inside.keys.entries) c.args.conn.0).socket z.socket (g.N.Net.state c.args.out.now.net) (g.N.Net.state c.put.new.out.net) (g.W.Watch.told c.args.out.now.watch) (g.W.Watch.told c.put.new.out.watch)) (sym (after g c))
-    (subst (λ (z : Connection). PassesOctets c.args.conn.0 z.socket.config.limit (can_drop c.args.item) (octets_of c.args.item ∷ []) c.put.result z.socket (stored_at c.put.new.connections c.key_of-key.result).socket (g.N.Net.state c.args.out.now.net) (g.N.Net.state c.put.new.out.net) (g.W.Watch.told c.args.out.now.watch) (g.W.Watch.told c.put.new.out.watch)) (stored_of c.self.invariant c.args.conn.0 c.key_of-key.ensures)
-    (subst (λ (z : ℕ). PassesOctets z (stored_at c.self.inside.connections c.key_of-key.result).socket.config.limit (can_drop c.args.item) (octets_of c.args.item ∷ []) c.put.result (stored_at c.self.inside.connections c.key_of-key.result).socket (stored_at c.put.new.connections c.key_of-key.result).socket (g.N.Net.state c.args.out.now.net) (g.N.Net.state c.put.new.out.net) (g.W.Watch.told c.args.out.now.watch) (g.W.Watch.told c.put.new.out.watch)) (number g c) c.put.ensures.passes)))
+    (subst₂ (λ (x y : Connection). PassesOctets c.args.conn.0 x.socket.config.limit (can_drop c.args.item) (octets_of c.args.item ∷ []) c.put.result x.socket y.socket (g.N.Net.state c.args.out.now.net) (g.N.Net.state c.put.new.out.net) (g.W.Watch.told c.args.out.now.watch) (g.W.Watch.told c.put.new.out.watch)) (stored_of c.self.invariant c.args.conn.0 c.key_of-key.ensures) (sym (after g c))
+    (subst (λ (z : ℕ). PassesOctets z (stored_at c.self.inside.connections c.key_of-key.result).socket.config.limit (can_drop c.args.item) (octets_of c.args.item ∷ []) c.put.result (stored_at c.self.inside.connections c.key_of-key.result).socket (stored_at c.put.new.connections c.key_of-key.result).socket (g.N.Net.state c.args.out.now.net) (g.N.Net.state c.put.new.out.net) (g.W.Watch.told c.args.out.now.watch) (g.W.Watch.told c.put.new.out.watch)) (number g c) c.put.ensures.passes))
+
+pub returns-clause-once : goal.returns-clause-once
+returns-clause-once g c = rw (← c.self.view_is)
+    (subst₂ (λ (x y : Connection). x.socket.ring ≡ [] → OffersOnce c.put.result c.args.conn.0 (octets_of c.args.item) y.socket.ring (g.N.Net.state c.args.out.now.net) (g.N.Net.state c.put.new.out.net) (g.W.Watch.told c.args.out.now.watch) (g.W.Watch.told c.put.new.out.watch)) (stored_of c.self.invariant c.args.conn.0 c.key_of-key.ensures) (sym (after g c))
+    (λ none. subst (λ (z : ℕ). OffersOnce c.put.result z (octets_of c.args.item) (stored_at c.put.new.connections c.key_of-key.result).socket.ring (g.N.Net.state c.args.out.now.net) (g.N.Net.state c.put.new.out.net) (g.W.Watch.told c.args.out.now.watch) (g.W.Watch.told c.put.new.out.watch)) (number g c) (c.put.ensures.once none)))
+
+pub returns-clause-tally : goal.returns-clause-tally
+returns-clause-tally g c = rw (← c.self.view_is)
+    (subst₂ (λ (x y : Connection). CountsRinged x.socket.ring y.socket.ring c.args.out.now.tally c.put.new.out.tally) (stored_of c.self.invariant c.args.conn.0 c.key_of-key.ensures) (sym (after g c)) c.put.ensures.tally)
 
 pub returns-clause-dropped : goal.returns-clause-dropped
 returns-clause-dropped g c = rw (← c.self.view_is)
     (c.put.ensures.dropped ∙ ap (λ (z : Connection). can_drop c.args.item && nat_lt z.socket.config.limit (length z.socket.ring)) (stored_of c.self.invariant c.args.conn.0 c.key_of-key.ensures))
-
-pub returns-clause-empty : goal.returns-clause-empty
-returns-clause-empty g c = rw (← c.self.view_is)
-    (λ none. ap (λ (z : Connection). z.socket.ring) (after g c) ∙ c.put.ensures.empty (ap (λ (z : Connection). z.socket.ring) (stored_of c.self.invariant c.args.conn.0 c.key_of-key.ensures) ∙ none))

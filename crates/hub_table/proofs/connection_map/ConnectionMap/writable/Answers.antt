@@ -1,4 +1,4 @@
-use Rattle.hub_table.proofs.All.{◌≡◌, ◌≢◌, true, false, [], refl, sym, ap, ◌∙◌, subst, with_value, has_entry, Connection, connection_of, entries_of, replaced, with_socket, is_ending, PassesOctets, ConnectionMapState, stored_at, listed, IsIndexed, own_number, replaced_here, has_key, under_key, stored_of, index_written, ending_stays, ℕ, Failed}
+use Rattle.hub_table.proofs.All.{◌≡◌, ◌≢◌, true, false, [], refl, sym, ap, ◌∙◌, subst, ℕ, with_value, has_entry, Connection, connection_of, entries_of, replaced, with_socket, is_ending, PassesOctets, ConnectionMapState, stored_at, listed, IsIndexed, own_number, replaced_here, has_key, under_key, stored_of, index_written, ending_stays}
 use Rattle.hub_table.proofs.MapLemmas.{due_stays}
 use Rattle.hub_table.proofs.connection_map.ConnectionMap.writable.Given as given
 use Rattle.hub_table.proofs.connection_map.ConnectionMap.writable.Goals as goal

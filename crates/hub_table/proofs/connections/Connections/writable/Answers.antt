@@ -1,5 +1,4 @@
-use Rattle.hub_table.proofs.All.{◌≡◌, ◌≢◌, ◌≤◌, ◌+◌, [], ◌∷◌, true, false, sym, ap, ◌∙◌, subst, arith, length, Entry, Phase, entry_of, has_entry, is_gone, TableState, Connection, connection_of, entries_of, with_socket, PassesOctets, Becomes, changes_one, entry_is, is_table, own_number, entry_conn, becomes_put, there_put, due_stays, each_of, config_of, ConfigValue, most_held, most_held_in, Failed}
-use Rattle.hub_table.proofs.ChangeLemmas.{left_none}
+use Rattle.hub_table.proofs.All.{◌≡◌, ◌≢◌, ◌≤◌, ◌+◌, [], ◌∷◌, true, false, sym, ap, ◌∙◌, subst, arith, length, Entry, Phase, entry_of, has_entry, is_gone, TableState, connection_of, entries_of, with_socket, PassesOctets, Becomes, changes_one, entry_is, is_table, own_number, becomes_put, there_put, due_stays, each_of, config_of, ConfigValue, most_held_in, left_none}
 use Rattle.hub_table.proofs.connections.Connections.writable.Given as given
 use Rattle.hub_table.proofs.connections.Connections.writable.Goals as goal
 
@@ -10,10 +9,13 @@ became : (g : given.Over) (c : goal.After-writable g) → Becomes c.self.inside.
 became g c =
     let own = each_of c.self.inside.config c.self.inside.named c.self.inside.table.all c.args.conn.0 c.self.invariant.kept.each (ap (λ (z : TableState). has_entry z.entries c.args.conn.0) c.self.view_is ∙ c.requires.there) in
     let passes = c.writable.ensures.passes in
-    let none = left_none (connection_of c.self.inside.table.all c.args.conn.0).socket.ring (connection_of c.writable.new.self.all c.args.conn.0).socket.ring own.ring passes.bound in
+    let none = left_none (connection_of c.self.inside.table.all c.args.conn.0).socket.ring (connection_of c.writable.new.self.all c.args.conn.0).socket.ring in
     becomes_put c.args.conn.0 (connection_of c.writable.new.self.all c.args.conn.0).socket c.self.invariant.kept (ap (λ (z : TableState). has_entry z.entries c.args.conn.0) c.self.view_is ∙ c.requires.there)
     passes.conn_is passes.config passes.phase
-    (λ h. passes.numbered ∙ (let n = own.head (sym passes.phase ∙ h) in omega arith)) (let e = ap length none in omega arith) (λ _. none) (λ _. none) none passes.quiet c.writable.ensures.all
+    (λ h. passes.numbered ∙ (let n = own.head (sym passes.phase ∙ h) in omega arith))
+    (subst (λ (z : Phase). length (connection_of c.writable.new.self.all c.args.conn.0).socket.ring ≤ most_held_in c.self.inside.config z) (sym passes.phase) (let a = own.bound in let b = passes.bound in omega arith))
+    (λ gone. none (own.gone (ap is_gone (sym passes.phase) ∙ gone)) passes.bound)
+    (λ zero. none (own.unused (let n = passes.numbered in omega arith)) passes.bound) passes.quiet c.writable.ensures.all
 
 -- what the call did, to the entry and by its number
 passed : (g : given.Over) (c : goal.After-writable g) → PassesOctets c.args.conn.0 c.args.self.now.config.limit false [] c.writable.result (entry_of c.args.self.now.entries c.args.conn.0) (entry_of (entries_of c.writable.new.self.all) c.args.conn.0) (g.N.Net.state c.args.out.now.net) (g.N.Net.state c.writable.new.out.net) (g.W.Watch.told c.args.out.now.watch) (g.W.Watch.told c.writable.new.out.watch)

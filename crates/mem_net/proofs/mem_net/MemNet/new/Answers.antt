@@ -12,4 +12,4 @@ invariant_of-result c =
     let all : take c.acts.done acts ≡ acts = ap (λ n. take n acts) done ∙ take-length acts in
     let numbers : c.acts.numbers.items ≡ arrivals acts = c.acts.invariant.0 ∙ ap arrivals all in
     let links : c.acts.links.items ≡ new_links acts = c.acts.invariant.1 ∙ ap new_links all in
-    rw (numbers, links) (starts acts few c.requires.sound c.requires.plain)
+    rw (numbers, links) (starts acts few c.requires)

@@ -1,12 +1,9 @@
-use Rattle.mem_net.proofs.All.{Some, refl, sym, ap, ◌∙◌, length, read_at, plain_at, no_credit}
+use Rattle.mem_net.proofs.All.{refl, sym, ap, length, read_at}
 use Rattle.link_trait.specs.declared.act.Act.TheVariants as act
 use Rattle.mem_net.proofs.mem_net.MemNet.step.Goals as goal
 
 pub arrive-requires-clause-act : goal.arrive-requires-clause-act
-arrive-requires-clause-act c =
-    let at = read_at c.self.inside.schedule c.acts.result.now c.self.inside.done c.index-acts-self.result (act.Arrive c.in-Arrive.conn c.in-Arrive.credit) c.acts.ensures (rw (← c.self.view_is) at c.requires.more) c.index-acts-self.is c.in-Arrive.is in
-    let none = no_credit c.in-Arrive.credit (plain_at c.self.inside.schedule c.self.inside.done (act.Arrive c.in-Arrive.conn c.in-Arrive.credit) c.self.invariant.follows.plain at) in
-    rw (← c.self.view_is) (at ∙ ap (λ credit. Some (act.Arrive c.in-Arrive.conn credit)) none)
+arrive-requires-clause-act c = rw (← c.self.view_is) (read_at c.self.inside.schedule c.acts.result.now c.self.inside.done c.index-acts-self.result (act.Arrive c.in-Arrive.conn c.in-Arrive.credit) c.acts.ensures (rw (← c.self.view_is) at c.requires.more) c.index-acts-self.is c.in-Arrive.is)
 
 pub come-requires-clause-act : goal.come-requires-clause-act
 come-requires-clause-act c =
@@ -22,6 +19,16 @@ pub finish-requires-in-ReadFails-clause-act : goal.finish-requires-in-ReadFails-
 finish-requires-in-ReadFails-clause-act c =
     let at = read_at c.self.inside.schedule c.acts.result.now c.self.inside.done c.index-acts-self.result (act.ReadFails c.in-ReadFails.conn) c.acts.ensures (rw (← c.self.view_is) at c.requires.more) c.index-acts-self.is c.in-ReadFails.is in
     rw (← c.self.view_is) (act.ReadFails c.in-ReadFails.conn, at, (refl, refl))
+
+pub change-requires-clause-act : goal.change-requires-clause-act
+change-requires-clause-act c =
+    let at = read_at c.self.inside.schedule c.acts.result.now c.self.inside.done c.index-acts-self.result (act.Room c.in-Room.conn c.in-Room.more) c.acts.ensures (rw (← c.self.view_is) at c.requires.more) c.index-acts-self.is c.in-Room.is in
+    rw (← c.self.view_is) (act.Room c.in-Room.conn c.in-Room.more, at, (refl, refl))
+
+pub change-requires-in-WriteFails-clause-act : goal.change-requires-in-WriteFails-clause-act
+change-requires-in-WriteFails-clause-act c =
+    let at = read_at c.self.inside.schedule c.acts.result.now c.self.inside.done c.index-acts-self.result (act.WriteFails c.in-WriteFails.conn) c.acts.ensures (rw (← c.self.view_is) at c.requires.more) c.index-acts-self.is c.in-WriteFails.is in
+    rw (← c.self.view_is) (act.WriteFails c.in-WriteFails.conn, at, (refl, refl))
 
 pub tick-requires-clause-act : goal.tick-requires-clause-act
 tick-requires-clause-act c = rw (← c.self.view_is) (read_at c.self.inside.schedule c.acts.result.now c.self.inside.done c.index-acts-self.result (act.Tick) c.acts.ensures (rw (← c.self.view_is) at c.requires.more) c.index-acts-self.is c.in-Tick.is)

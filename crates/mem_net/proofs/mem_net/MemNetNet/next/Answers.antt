@@ -8,8 +8,8 @@ of_shut old now s (act.Octets conn octets) h = sym (s.links.live conn.0) ∙ h
 of_shut old now s (act.End conn) h = sym (s.links.live conn.0) ∙ h
 of_shut old now s (act.ReadFails conn) h = sym (s.links.live conn.0) ∙ h
 of_shut old now s (act.Arrive conn credit) h = absurd h
-of_shut old now s (act.Room conn more) h = absurd h
-of_shut old now s (act.WriteFails conn) h = absurd h
+of_shut old now s (act.Room conn more) h = sym (s.links.live conn.0) ∙ h
+of_shut old now s (act.WriteFails conn) h = sym (s.links.live conn.0) ∙ h
 of_shut old now s act.Tick h = absurd h
 of_shut old now s act.Turn h = absurd h
 

@@ -7,7 +7,7 @@ returns-in-Arrive c = λ acts line follows none.
     let there = subst (λ (a : Act). fault_after acts a ≡ None) c.in-Arrive.is none in
     let one = subst (λ (a : Act). HasLine a) c.in-Arrive.is line in
     subst (λ (a : Act). OnOk c.arrive.result (Follows (acts ++ a ∷ []) c.arrive.new.self)) (sym c.in-Arrive.is)
-    (on_ok_weaker c.arrive.result (λ (h : Arrives c.in-Arrive.conn.0 c.args.self.now c.arrive.new.self). follows_arrival acts c.in-Arrive.conn c.in-Arrive.credit c.args.self.now c.arrive.new.self one.1.0.0 follows (rises acts c.in-Arrive.conn.0 there) h) c.arrive.ensures)
+    (on_ok_weaker c.arrive.result (λ (h : Arrives c.in-Arrive.conn.0 c.args.self.now c.arrive.new.self). follows_arrival acts c.in-Arrive.conn c.in-Arrive.credit c.args.self.now c.arrive.new.self one.0.0 follows (rises acts c.in-Arrive.conn.0 there) h) c.arrive.ensures)
 
 pub returns-in-End : goal.returns-in-End
 returns-in-End c = λ acts line follows none.
@@ -32,3 +32,11 @@ returns-in-Tick c = λ acts line follows none.
 pub returns-in-Turn : goal.returns-in-Turn
 returns-in-Turn c = λ acts line follows none.
     subst (λ (a : Act). Follows (acts ++ a ∷ []) c.args.self.now) (sym c.in-Turn.is) (follows_other acts act.Turn c.args.self.now (λ q. refl) (λ q. refl) (λ q. refl) follows)
+
+pub returns-in-Room : goal.returns-in-Room
+returns-in-Room c = λ acts line follows none.
+    subst (λ (a : Act). Follows (acts ++ a ∷ []) c.args.self.now) (sym c.in-Room.is) (follows_other acts (act.Room c.in-Room.conn c.in-Room.more) c.args.self.now (λ q. refl) (λ q. refl) (λ q. refl) follows)
+
+pub returns-in-WriteFails : goal.returns-in-WriteFails
+returns-in-WriteFails c = λ acts line follows none.
+    subst (λ (a : Act). Follows (acts ++ a ∷ []) c.args.self.now) (sym c.in-WriteFails.is) (follows_other acts (act.WriteFails c.in-WriteFails.field-0) c.args.self.now (λ q. refl) (λ q. refl) (λ q. refl) follows)

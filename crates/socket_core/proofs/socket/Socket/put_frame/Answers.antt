@@ -1,6 +1,4 @@
-use Rattle.socket_core.proofs.Below.{rules, refl, ◌≡◌, ◌≢◌, ◌<◌, ◌≤◌, ℕ, List, [], true, length, sym, ap, ◌∙◌, subst, arith, can_drop, octets_of, HandsOver, Bool, false, ◌&&◌, nat_lt, is_drop, and-false}
-use Rattle.socket_core.proofs.PassLemmas.{passes_put, passes_dropped, noted_dropped, undropped_of}
-use Rattle.socket_core.specs.contracts.socket.Socket.{the_view}
+use Rattle.socket_core.proofs.All.{rules, refl, ◌≡◌, ◌≢◌, ◌<◌, ◌≤◌, ℕ, List, [], true, length, sym, ap, ◌∙◌, subst, arith, can_drop, octets_of, HandsOver, Bool, false, ◌&&◌, nat_lt, is_drop, and-false, passes_put, passes_dropped, noted_dropped, undropped_of, the_view, OffersOnce}
 use Rattle.socket_core.proofs.socket.Socket.put_frame.Goals as goal
 use Rattle.socket_core.proofs.socket.Socket.put_frame.Goals.{else-can_drop-via-then-can_drop+else-is_over, else-can_drop-via-else-can_drop}
 
@@ -37,3 +35,8 @@ returns-clause-dropped g c =
           ap (λ (z : Bool). z && nat_lt c.self.inside.config.limit (length c.self.inside.ring.octets)) not)
     ] in
     rw (← c.self.view_is) (none ∙ sym may)
+
+pub returns-clause-once : goal.returns-clause-once
+returns-clause-once g c =
+    let same : c.deref.result.now ≡ octets_of c.args.item = c.deref.ensures.value ∙ c.spell.ensures.octets in
+    rw (← c.self.view_is) (λ none. subst (λ (z : List ℕ). OffersOnce c.hand_over.result c.self.inside.conn.0 z c.hand_over.new.ring.octets (g.N.Net.state c.args.out.now.net) (g.N.Net.state c.hand_over.new.out.net) (g.W.Watch.told c.args.out.now.watch) (g.W.Watch.told c.hand_over.new.out.watch)) same (c.hand_over.ensures.once none))

@@ -1,7 +1,4 @@
-use Rattle.socket_core.proofs.Below.{rules, refl, ◌≡◌, ◌≢◌, ◌<◌, ◌≤◌, ◌++◌, ◌^◌, ℕ, List, [], length, sym, ap, ◌∙◌, subst, arith, Kept, Hands, Clear, Failed, without_first, RingValue, drop}
-use Rattle.socket_core.proofs.HandLemmas.{hands_for}
-use Rattle.socket_core.proofs.PassLemmas.{passes_left}
-use Rattle.socket_core.specs.contracts.socket.Socket.{the_view}
+use Rattle.socket_core.proofs.All.{rules, refl, ◌≡◌, ◌≢◌, ◌<◌, ◌≤◌, ◌++◌, ◌^◌, ℕ, List, [], length, sym, ap, ◌∙◌, subst, arith, Hands, Clear, Failed, RingValue, drop, hands_for, passes_left, the_view}
 use Rattle.socket_core.proofs.socket.Socket.writable.Goals as goal
 
 pub returns-in-None-clause-passes : goal.returns-in-None-clause-passes

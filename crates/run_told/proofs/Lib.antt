@@ -1,0 +1,9 @@
+pub mod TellLemmas
+pub mod TraceLemmas
+pub mod PhaseLemmas
+pub mod NotingLemmas
+pub mod TellingLemmas
+pub mod OwingLemmas
+pub mod PassLemmas
+pub mod Below
+pub mod All

@@ -1,0 +1,5 @@
+pub mod Tellings
+pub mod Pass
+pub mod Trace
+pub mod Rows
+pub mod All
