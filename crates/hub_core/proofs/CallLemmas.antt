@@ -1,5 +1,5 @@
 -- What calls of a hub do, put together from what they do to the hub's state, to the watch and to the net.
-use Rattle.hub_core.proofs.Below.{◌≡◌, ◌≢◌, ◌<◌, ◌≤◌, inl, inr, ℕ, List, [], ◌∷◌, ◌++◌, Option, Some, None, Bool, true, false, cond, not, is_some, IsTrue, nat_eq, length, refl, sym, ap, ◌∙◌, subst, arith, nat_tests, Kind, Text, Binary, Why, Phase, Head, Open, Leaving, Ending, Gone, NoteValue, IsNoted, NetState, Opcode, Begins, opcode_number, Item, is_sent_opcode, is_of, is_open, topics_left, Tell, marked, nothing_told, tell_by, QuietCount, new_count, one_heard, is_reading, is_silent, is_dropped, ShortWhereHeld, HubState, Entry, PartingValue, Server, server, entry_at, no_entry, new_entry, is_gone, has_entry, entry_of, is_present, phase_at, cork_at, pending_at, ring_at, Held, held_at, KeepsLine, Starts, nothing, only, served, Ties, entry_added, entry_new, line_gone, line_still, starts_of, lines_elsewhere_then, Progress, due_of, due_at, topics_at, progress_at, progress_by, may_come, tell_at, CountsBy, counts_at, leaves_at, unless_gone, KeepsFront, Appends, by_cases, clash, or_left, or_right, of_here, of_other, same_counts, proceeds_then, proceeds_first, appends_same, appends_as, appends_after_nothing, TableState, ChangesOne, IsTable, is_kept, TakesDue, table_of, Taken, Arrives, Makes, has_frames, IsSent, Puttable, Kept, ChangesHub, Ends, Notes, Sends, Puts, hub_of, falsely, truly, topics_of, IsHub, none_of, tell_of, TellingsState, nothing_of, may_hold}
+use Rattle.hub_core.proofs.Below.{◌≡◌, ◌≢◌, ◌<◌, ◌≤◌, inl, inr, ℕ, List, [], ◌∷◌, ◌++◌, Option, Some, None, Bool, true, false, cond, not, is_some, IsTrue, nat_eq, length, refl, sym, ap, ◌∙◌, subst, arith, nat_tests, Kind, Text, Binary, Why, Phase, Head, Open, Leaving, Ending, Gone, NoteValue, IsNoted, NetState, Opcode, Begins, opcode_number, Item, is_sent_opcode, is_of, is_open, topics_left, Tell, marked, nothing_told, tell_by, QuietCount, new_count, one_heard, is_reading, is_silent, ShortWhereHeld, HubState, Entry, PartingValue, Server, server, entry_at, no_entry, new_entry, is_gone, has_entry, entry_of, is_present, phase_at, cork_at, pending_at, ring_at, Held, held_at, KeepsLine, Starts, nothing, only, served, Ties, entry_added, entry_new, line_gone, line_still, starts_of, lines_elsewhere_then, Progress, due_of, due_at, topics_at, progress_at, progress_by, may_come, tell_at, CountsBy, counts_at, leaves_at, unless_gone, KeepsFront, drops_still, Appends, by_cases, clash, or_left, or_right, of_here, of_other, same_counts, proceeds_then, proceeds_first, appends_same, appends_as, appends_after_nothing, TableState, ChangesOne, IsTable, is_kept, TakesDue, table_of, Taken, Arrives, Makes, has_frames, IsSent, Puttable, Kept, ChangesHub, Ends, Notes, Sends, Puts, hub_of, falsely, truly, topics_of, IsHub, none_of, tell_of, TellingsState, nothing_of, may_hold}
 use Rattle.ws_kinds.specs.NoteValue as note
 use Rattle.hub_core.proofs.HubSteps.{Enters}
 use Rattle.hub_core.proofs.StateLemmas.{progress_of, table_change, change_named, entry_changed}
@@ -446,7 +446,9 @@ module _ {c : ℕ} {a b : HubState} (f : Forgets c a b) where
     count = λ there few. items_still a b d (still_as d (was_there d there));
     front = λ there away few items stands. clash (is_gone (entry_at b d).phase) (gone_as d ∙ falsely (is_gone (entry_at a d).phase) there) (truly (is_gone (entry_at b d).phase) away);
     taken = λ away. refl;
-    drops = λ away old new eo en index. let same : new ≡ old = cc in ap (λ (z : List NoteValue). is_dropped d z index) same;
+    drops = λ away. drops_still d t;
+    fair = λ there away few items stands fair. clash (is_gone (entry_at b d).phase) (gone_as d ∙ falsely (is_gone (entry_at a d).phase) there) (truly (is_gone (entry_at b d).phase) away);
+    stays = λ away limit items fair. fair;
   }
 
   ring_as : (d : ℕ) → is_present b d ≡ true → ring_at b d ≡ ring_at a d

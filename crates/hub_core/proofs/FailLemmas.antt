@@ -1,13 +1,13 @@
 -- What it leaves of a hub that an item is put, or what is held is offered, for a connection whose link fails: it is gone.
-use Rattle.hub_core.proofs.Below.{◌≡◌, ◌≢◌, ◌<◌, ◌≤◌, ◌+◌, ◌^◌, ◌-◌, ◌⊎◌, inl, inr, ℕ, List, [], ◌∷◌, ◌++◌, length, Bool, true, false, nat_eq, ◌&&◌, ◌||◌, refl, sym, ap, ◌∙◌, subst, append-nil, arith, ⊎_elim, cases_eq, LinkFailed, NoteValue, CountsFault, number_of, is_gone_by_in, taken_of, Server, entry_at, numbered_at, ring_at, cork_at, pending_at, is_gone, is_present, Stands, StandsFor, buffered_at, with_pending, Beside, Ties, SameLinesElsewhere, ShortRings, only, stands_point, beside_then, line_gone, only_here, only_other, lines_elsewhere_then, is_link_failure, RoseBy, FailsAfter, KeepsFront, Advances, Proceeds, Appends, clash, or_none, same_number, other_number, outgoing_both, advances_then, front_then, IsSent, Failed, PutsItem, Leaves, keeps_of, Passes, octets_of}
+use Rattle.hub_core.proofs.Below.{◌≡◌, ◌≢◌, ◌<◌, ◌≤◌, ◌+◌, ◌^◌, ◌-◌, ◌⊎◌, inl, inr, ℕ, List, [], ◌∷◌, ◌++◌, length, Bool, true, false, nat_eq, ◌&&◌, ◌||◌, refl, sym, ap, ◌∙◌, subst, append-nil, arith, ⊎_elim, cases_eq, LinkFailed, NoteValue, CountsFault, number_of, is_gone_by_in, taken_of, Server, entry_at, numbered_at, ring_at, cork_at, pending_at, is_gone, is_present, Stands, StandsFor, buffered_at, with_pending, Beside, Ties, SameLinesElsewhere, ShortRings, only, stands_point, beside_then, line_gone, only_here, only_other, lines_elsewhere_then, is_link_failure, RoseBy, FailsAfter, TakesFront, KeepsFront, SameDrops, front_later, drops_then, fairly_later, fairly_longer, fairly_now, undropped, Advances, Proceeds, Appends, clash, or_none, same_number, other_number, outgoing_both, advances_then, front_then, IsSent, Failed, PutsItem, Leaves, keeps_of, Passes, octets_of}
 use Rattle.ws_kinds.specs.NoteValue as note
 use Rattle.wire_meaning.specs.Answer as answer
 use Rattle.socket_core.specs.declared.item.Item.{Item}
 use Rattle.hub_core.proofs.SentLemmas.{sent_outgoing, failures_after, gone_by_after}
 use Rattle.hub_core.proofs.ItemLemmas.{octets_sent}
-use Rattle.hub_core.proofs.StateLemmas.{is_there, told_before}
+use Rattle.hub_core.proofs.StateLemmas.{is_there, told_before, drops_none}
 use Rattle.hub_core.proofs.PutLemmas.{put_advances, put_beside, put_elsewhere, put_ties, put_front_other, put_short_other, put_waits_other}
-use Rattle.hub_core.proofs.LeaveLemmas.{may_leave, leave_advances, leave_beside, leave_lines, leave_ties, leave_gone, leave_taken, leave_before, leave_drops, leave_front_other, leave_short_other, leave_waits, front_later}
+use Rattle.hub_core.proofs.LeaveLemmas.{may_leave, leave_advances, leave_beside, leave_lines, leave_ties, leave_gone, leave_taken, leave_before, leave_drops, leave_front_other, leave_short_other, leave_waits}
 
 rose_once : (old mid new last : ℕ) → (old < mid) ⊎ (mid ≡ last) → mid ≤ new → (old + 1 ≤ new) ⊎ (last ≤ new)
 rose_once old mid new last (inl rise) least = inl (omega arith)
@@ -76,6 +76,10 @@ module _ {c : ℕ} {may_drop : Bool} {popped : List (List ℕ)} {a b d : Server}
   abbrev Adds : List answer.Item → Type 0
   Adds more = (items : List answer.Item) → StandsFor c a items → Stands c (with_pending (buffered_at a.hub c) (popped ++ [])) (taken_of a.net c) a.told (items ++ more)
 
+  -- no item of it was dropped
+  fail_drops : SameDrops c a.told d.told
+  fail_drops = drops_then c a.told b.told d.told (drops_none c a.told b.told p.offers.notes p.offers.told (undropped c p.offers.notes p.offers.dropped)) (leave_drops l c)
+
   -- the link took a front of the items with these behind them
   fail_front : (more : List answer.Item) → Adds more → KeepsFront c more a d
   fail_front more adds =
@@ -85,14 +89,18 @@ module _ {c : ℕ} {may_drop : Bool} {popped : List (List ℕ)} {a b d : Server}
         told = λ now e. let q = leave_before l now e in told_before a.told b.told p.offers.notes p.offers.told q.0 q.1;
         count = λ is few. clash (is_present d.hub c) fail_gone is;
         front = λ was gone few items stands.
-            front_later c (items ++ more) b.net d.net b.told d.told (leave_taken l c) (leave_before l) (leave_drops l c)
-            (p.front refl (counted_before (numbered_at a.hub c) (length (pending_at a.hub c)) (length more) (2 ^ 64 - 1) few) [] (items ++ more) (adds items stands));
+            subst (λ (z : List answer.Item). TakesFront c z d.net d.told) (append-nil (items ++ more)) (front_later c (items ++ more) [] b.net d.net b.told d.told (leave_taken l c) (leave_drops l c)
+            (p.front refl (counted_before (numbered_at a.hub c) (length (pending_at a.hub c)) (length more) (2 ^ 64 - 1) few) [] (items ++ more) (adds items stands)));
         taken = λ gone. clash (is_present a.hub c) gone was;
         drops = λ gone. clash (is_present a.hub c) gone was;
+        fair = λ was gone few items stands fair.
+            fairly_longer c a.hub.config.limit items more d.net d.told (fairly_later c a.hub.config.limit items a.net d.net a.told d.told (l.shuts.net.tells ∙ p.net.net.tells) fail_drops
+            (fairly_now c a items (counted_before (numbered_at a.hub c) (length (pending_at a.hub c)) (length more) (2 ^ 64 - 1) few) fair));
+        stays = λ gone. clash (is_present a.hub c) gone was;
       }
 
   fail_front_other : (x : ℕ) → x ≢ c → KeepsFront x [] a d
-  fail_front_other x ne = front_then x [] [] a b d
+  fail_front_other x ne = front_then x [] [] a b d p.elsewhere.table.config
       (put_front_other p x ne) ((put_beside p).lines x ne) (leave_front_other l x ne) ((leave_beside l).lines x ne)
 
   fail_short : ShortRings a → ShortRings d

@@ -1,7 +1,6 @@
 -- An item that is put is one of those that a server sends.
 use Rattle.hub_core.proofs.Below.{◌≡◌, ℕ, ◌++◌, true, false, not, ◌==◌, IsTrue, length, refl, sym, ap, ◌∙◌, subst, Text, Binary, Opcode, Continuation, Begins, Close, Ping, Pong, Reserved, header, opcode_number, spelled, is_sent_opcode, is_droppable, octets_of, can_drop, IsSent, Reply, Spelled, Frame}
 use Rattle.wire_meaning.specs.Answer as answer
-use Rattle.hub_lines.specs.Items as lines
 use Rattle.socket_core.specs.declared.item.Item.{Item}
 
 pub octets_sent : (item : Item) (sent : answer.Item) → IsSent item sent → octets_of item ≡ spelled sent
@@ -19,8 +18,8 @@ drop_number Ping s = refl
 drop_number Pong s = refl
 drop_number Reserved s = absurd (let z : false ≡ true = s in cc)
 
-pub drops_sent : (item : Item) (sent : answer.Item) → IsSent item sent → can_drop item ≡ lines.can_drop sent
-drops_sent (Reply text) sent s = sym (ap lines.can_drop s)
+pub drops_sent : (item : Item) (sent : answer.Item) → IsSent item sent → can_drop item ≡ answer.can_drop sent
+drops_sent (Reply text) sent s = sym (ap answer.can_drop s)
 drops_sent (Spelled frame) sent s = sym s.0
 drops_sent (Frame number payload) sent s =
-    ap (λ (z : ℕ). not (z == 8)) (sym s.1.1) ∙ drop_number s.1.0 (subst (λ (z : ℕ). IsTrue (is_sent_opcode z)) (sym s.1.1) s.0) ∙ sym (ap lines.can_drop s.1.2)
+    ap (λ (z : ℕ). not (z == 8)) (sym s.1.1) ∙ drop_number s.1.0 (subst (λ (z : ℕ). IsTrue (is_sent_opcode z)) (sym s.1.1) s.0) ∙ sym (ap answer.can_drop s.1.2)

@@ -1,5 +1,5 @@
 -- What it leaves of a hub that a connection becomes gone.
-use Rattle.hub_core.proofs.Below.{◌≤◌, ◌≡◌, ◌≢◌, ◌<◌, ◌+◌, ◌^◌, ◌-◌, inl, ℕ, List, [], ◌∷◌, ◌++◌, Option, Some, None, Bool, true, false, cond, nat_eq, not, ◌&&◌, ◌||◌, length, refl, sym, ap, ◌∙◌, subst, append-nil, arith, ⊎_elim, cases_eq, Left, PeerEnd, LinkFailed, Idle, Finished, Phase, Head, Open, Leaving, Ending, Gone, NoteValue, NetState, Item, is_gone_in, is_left, taken_of, is_dropped, ShortWhereHeld, Entry, Server, entry_at, numbered_at, ring_at, pending_at, is_gone, is_present, Held, held_at, held_octets, Stands, StandsFor, IsCounted, Others, Beside, Ties, SameElsewhere, SameLinesElsewhere, ShortRings, nothing, kept_same, taken_shut, others_shut, keeps_of, line_gone, ties_shut, AreNoted, TrafficAfter, NetAfter, RoseBy, FailsAfter, TakesFront, TakesAll, SameDrops, KeepsFront, KeepsFronts, RingsWait, items_at, unless_gone, progress_at, progress_by, progress_after_all, may_come, may_all_come, may_leave_by, due_at, topics_at, Advances, Appends, clash, or_false, same_number, other_number, told_one, IsTable, table_of, due_when_gone, tell_at, SameCounts, nothing_told, tell_by_all, topics_left, Leaves, Goes, Notes, LosesLink, is_open, Waits}
+use Rattle.hub_core.proofs.Below.{◌≤◌, ◌≡◌, ◌≢◌, ◌<◌, ◌+◌, ◌^◌, ◌-◌, inl, ℕ, List, [], ◌∷◌, ◌++◌, Option, Some, None, Bool, true, false, cond, nat_eq, not, ◌&&◌, ◌||◌, length, refl, sym, ap, ◌∙◌, subst, append-nil, arith, ⊎_elim, cases_eq, Left, PeerEnd, LinkFailed, Idle, Finished, Phase, Head, Open, Leaving, Ending, Gone, NoteValue, NetState, Item, is_gone_in, is_left, taken_of, is_dropped, ShortWhereHeld, Entry, Server, entry_at, numbered_at, ring_at, pending_at, is_gone, is_present, Held, held_at, held_octets, Stands, StandsFor, IsCounted, Others, Beside, Ties, SameElsewhere, SameLinesElsewhere, ShortRings, nothing, kept_same, taken_shut, others_shut, keeps_of, line_gone, ties_shut, AreNoted, TrafficAfter, NetAfter, RoseBy, FailsAfter, TakesFront, TakesAll, SameDrops, drops_as, fairly_later, fairly_longer, fairly_now, front_later, KeepsFront, KeepsFronts, RingsWait, items_at, unless_gone, progress_at, progress_by, progress_after_all, may_come, may_all_come, may_leave_by, due_at, topics_at, Advances, Appends, clash, or_false, same_number, other_number, told_one, IsTable, table_of, due_when_gone, tell_at, SameCounts, nothing_told, tell_by_all, topics_left, Leaves, Goes, Notes, LosesLink, is_open, Waits}
 use Rattle.ws_kinds.specs.NoteValue as note
 use Rattle.hub_core.proofs.SentLemmas.{progress_with, short_still}
 use Rattle.hub_core.proofs.StateLemmas.{progress_of, is_away, is_there, change_present, change_progress, change_elsewhere, entry_kept, beside_change, lines_elsewhere, told_before, drops_same, front_still}
@@ -48,12 +48,11 @@ if_else b x y e = ap (λ (z : Bool). cond z x y) e
 
 -- ---- what a link took stays what it is
 
-pub all_later : (x : ℕ) (items : List Item) (n0 n1 : NetState) (t0 t1 : Option (List NoteValue)) → taken_of n1 x ≡ taken_of n0 x
-    → ((notes : List NoteValue) → t1 ≡ Some notes → (earlier : List NoteValue) × (t0 ≡ Some earlier)) → SameDrops x t0 t1 → TakesAll x items n0 t0 → TakesAll x items n1 t1
-all_later x items n0 n1 t0 t1 taken told drops all = record {
+pub all_later : (x : ℕ) (items : List Item) (n0 n1 : NetState) (t0 t1 : Option (List NoteValue)) → taken_of n1 x ≡ taken_of n0 x → SameDrops x t0 t1 → TakesAll x items n0 t0 → TakesAll x items n1 t1
+all_later x items n0 n1 t0 t1 taken drops all = record {
   where_told = λ octets eo notes en.
-      let q = told notes en in
-      kept_same (is_dropped x q.0) (is_dropped x notes) 0 items (λ j low high. drops q.0 notes q.1 en j) ∙ all.where_told octets (sym taken ∙ eo) q.0 q.1;
+      let q = drops notes en in
+      kept_same (is_dropped x q.0) (is_dropped x notes) 0 items (λ j low high. drops_as x q.0 q.1 notes q.3 q.4 j) ∙ all.where_told octets (sym taken ∙ eo) q.0 q.2;
 }
 
 pub front_at_once : (x : ℕ) (items : List Item) (held : Held) (n0 : NetState) (t0 : Option (List NoteValue)) → IsCounted held.numbered → Stands x held (taken_of n0 x) t0 items → TakesFront x items n0 t0
@@ -62,16 +61,6 @@ front_at_once x items held n0 t0 few stands = record { where_told = λ octets eo
 pub all_at_once : (x : ℕ) (items : List Item) (held : Held) (n0 : NetState) (t0 : Option (List NoteValue)) → IsCounted held.numbered → held_octets held ≡ [] → Stands x held (taken_of n0 x) t0 items → TakesAll x items n0 t0
 all_at_once x items held n0 t0 few none stands = record {
   where_told = λ octets eo notes en. (stands.where_told octets eo notes en few).spelling ∙ ap (λ (z : List ℕ). octets ++ z) none ∙ append-nil octets;
-}
-
--- a front stays one
-pub front_later : (x : ℕ) (items : List Item) (n0 n1 : NetState) (t0 t1 : Option (List NoteValue)) → taken_of n1 x ≡ taken_of n0 x
-    → ((notes : List NoteValue) → t1 ≡ Some notes → (earlier : List NoteValue) × (t0 ≡ Some earlier)) → SameDrops x t0 t1 → TakesFront x items n0 t0 → TakesFront x items n1 t1
-front_later x items n0 n1 t0 t1 taken told drops front = record {
-  where_told = λ octets eo notes en.
-      let q = told notes en in
-      let w = front.where_told octets (sym taken ∙ eo) q.0 q.1 in
-      (w.0, kept_same (is_dropped x q.0) (is_dropped x notes) 0 items (λ j low high. drops q.0 notes q.1 en j) ∙ w.1);
 }
 
 counted : (m k last : ℕ) → (m + k) + 0 < last → m < last
@@ -230,11 +219,15 @@ module _ {c : ℕ} {left : Left} {a b : Server} (l : Leaves c left a b) where
         tells = l.shuts.net.tells;
         told = leave_before;
         count = λ is few. clash (is_present b.hub c) leave_gone is;
-        front = λ was gone few items stands. subst (λ (z : List Item). TakesFront c z b.net b.told) (sym (append-nil items))
-            (front_later c items a.net b.net a.told b.told (leave_taken c) leave_before (leave_drops c)
-            (front_at_once c items (held_at a.hub c) a.net a.told (counted (numbered_at a.hub c) (length (pending_at a.hub c)) (2 ^ 64 - 1) few) stands));
+        front = λ was gone few items stands.
+            front_later c items [] a.net b.net a.told b.told (leave_taken c) (leave_drops c)
+            (front_at_once c items (held_at a.hub c) a.net a.told (counted (numbered_at a.hub c) (length (pending_at a.hub c)) (2 ^ 64 - 1) few) stands);
         taken = λ gone. clash (is_present a.hub c) gone was;
         drops = λ gone. clash (is_present a.hub c) gone was;
+        fair = λ was gone few items stands fair.
+            fairly_longer c a.hub.config.limit items [] b.net b.told (fairly_later c a.hub.config.limit items a.net b.net a.told b.told l.shuts.net.tells (leave_drops c)
+            (fairly_now c a items (counted (numbered_at a.hub c) (length (pending_at a.hub c)) (2 ^ 64 - 1) few) fair));
+        stays = λ gone. clash (is_present a.hub c) gone was;
       }
 
   leave_fronts : is_gone (entry_at a.hub c).phase ≡ false → KeepsFronts nothing a b
@@ -273,7 +266,7 @@ module _ {c : ℕ} {left : Left} {a b : Server} (l : Leaves c left a b) where
   -- the link took all items of a connection for which nothing was held
   pub leave_takes_all : held_octets (held_at a.hub c) ≡ [] → items_at a.hub c < 2 ^ 64 - 1 → (items : List Item) → StandsFor c a items → TakesAll c items b.net b.told
   leave_takes_all none few items stands =
-      all_later c items a.net b.net a.told b.told (leave_taken c) leave_before (leave_drops c)
+      all_later c items a.net b.net a.told b.told (leave_taken c) (leave_drops c)
       (all_at_once c items (held_at a.hub c) a.net a.told (counted_at (numbered_at a.hub c) (length (pending_at a.hub c)) (2 ^ 64 - 1) few) none stands)
 
   -- all of it

@@ -1,5 +1,5 @@
 -- A note that says nothing of what was sent, beside a hub in which it changes one connection or none.
-use Rattle.hub_core.proofs.Below.{◌≡◌, ◌≢◌, ◌<◌, ◌≤◌, ◌+◌, ◌⊎◌, inl, inr, ℕ, List, [], ◌∷◌, ◌++◌, Option, Bool, true, false, cond, not, ◌&&◌, ◌||◌, length, refl, sym, ap, ◌∙◌, subst, append-nil, arith, LinkFailed, Phase, NoteValue, IsNoted, NetState, is_of, writes, taken, number_of, is_gone_in, is_gone_by_in, Tell, tell_by, is_silent, is_dropped, taken_of, ShortWhereHeld, HubState, Entry, Server, server, is_gone, entry_at, is_present, ring_at, cork_at, pending_at, Held, held_at, KeepsLine, SameLinesElsewhere, Ties, nothing, is_dropped_more, stands_silent, fair_silent, silent_drops, line_still, held_same, short_silent, split_told, is_link_failure, Progress, progress_at, progress_by, progress_after, may_come, may_all_come, TellsBy, tell_at, CountsBeside, SameCounts, counts_at, count_of, NetAfter, FailsAfter, RoseBy, KeepsFront, SameDrops, items_at, Advances, Appends, by_cases, clash, and_true, or_false, zero_more, plus_none, told_one, same_counts, ChangesHub, after_own, after_other, falsely, truly}
+use Rattle.hub_core.proofs.Below.{◌≡◌, ◌≢◌, ◌<◌, ◌≤◌, ◌+◌, ◌⊎◌, inl, inr, ℕ, List, [], ◌∷◌, ◌++◌, Option, Bool, true, false, cond, not, ◌&&◌, ◌||◌, length, refl, sym, ap, ◌∙◌, subst, append-nil, arith, LinkFailed, Phase, NoteValue, IsNoted, NetState, is_of, writes, taken, number_of, is_gone_in, is_gone_by_in, Tell, tell_by, is_silent, taken_of, ShortWhereHeld, HubState, Entry, Server, server, is_gone, entry_at, is_present, ring_at, cork_at, pending_at, Held, held_at, KeepsLine, SameLinesElsewhere, Ties, nothing, stands_silent, fair_silent, silent_drops, line_still, held_same, short_silent, split_told, is_link_failure, Progress, progress_at, progress_by, progress_after, may_come, may_all_come, TellsBy, tell_at, CountsBeside, SameCounts, counts_at, count_of, NetAfter, FailsAfter, RoseBy, KeepsFront, SameDrops, fairly_later, items_at, Advances, Appends, by_cases, clash, and_true, or_false, zero_more, plus_none, told_one, same_counts, ChangesHub, after_own, after_other, falsely, truly}
 use Rattle.ws_kinds.specs.NoteValue as note
 use Rattle.hub_core.proofs.HubSteps.{Enters}
 use Rattle.hub_core.proofs.StateLemmas.{same_or_not, change_present, change_progress, change_named, lines_elsewhere}
@@ -147,11 +147,8 @@ pub still_of : (c : ℕ) (a b : HubState) → ChangesHub c a b → (d : ℕ) →
 still_of c a b change d ne = record { held = held_same a b d (change.table.entries d ne) (change.cork d ne) (change.pending d ne); gone = ap (λ (z : Entry). is_gone z.phase) (change.table.entries d ne) }
 
 pub drops_silent : (c : ℕ) (t t' : Option (List NoteValue)) (n : NoteValue) → IsNoted t n t' → is_silent c n ≡ true → SameDrops c t t'
-drops_silent c t t' n told silent old new eo en index =
-    let q = split_told t t' n new told en in
-    let same : q.0 ≡ old = let e = q.1 in cc in
-    ap (λ (z : List NoteValue). is_dropped c z index) q.2 ∙ is_dropped_more c q.0 n index ∙ ap (λ (z : Bool). is_dropped c q.0 index || z) (silent_drops c index n silent)
-    ∙ sym (or_false (is_dropped c q.0 index)) ∙ ap (λ (z : List NoteValue). is_dropped c z index) same
+drops_silent c t t' n told silent notes e =
+    let q = split_told t t' n notes told e in (q.0, n ∷ [], q.1, q.2, λ i. ap (λ (z : Bool). z || false) (silent_drops c i n silent))
 
 pub line_noted : (a b : HubState) (net : NetState) (t t' : Option (List NoteValue)) (n : NoteValue) (d : ℕ) → b.config ≡ a.config → IsNoted t n t' → is_silent d n ≡ true → Still a b d
     → KeepsLine d [] (server a net t) (server b net t')
@@ -172,6 +169,8 @@ front_noted a b net t t' n d told silent still = record {
   front = λ there away few items stands. clash (is_gone (entry_at b d).phase) (still.gone ∙ falsely (is_gone (entry_at a d).phase) there) (truly (is_gone (entry_at b d).phase) away);
   taken = λ away. refl;
   drops = λ away. drops_silent d t t' n told silent;
+  fair = λ there away few items stands fair. clash (is_gone (entry_at b d).phase) (still.gone ∙ falsely (is_gone (entry_at a d).phase) there) (truly (is_gone (entry_at b d).phase) away);
+  stays = λ away limit items. fairly_later d limit items net net t t' refl (drops_silent d t t' n told silent);
 }
 
 -- what it may leave of a connection: what lines stand on, or a new connection with nothing in its ring

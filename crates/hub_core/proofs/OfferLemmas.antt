@@ -1,5 +1,5 @@
 -- What it leaves of a hub that what is held for a connection is offered.
-use Rattle.hub_core.proofs.Below.{◌≡◌, ◌≢◌, ◌≤◌, ◌^◌, ◌-◌, ◌<◌, ◌||◌, ◌&&◌, ℕ, List, [], ◌∷◌, Bool, true, false, not, nat_eq, refl, sym, ap, ◌∙◌, subst, append-nil, arith, Finished, LinkFailed, Phase, Ending, Item, has_number, Server, entry_at, ring_at, is_gone, is_present, present_entry, StandsFor, Stands, buffered_at, with_pending, taken_of, nothing, Ties, SameLinesElsewhere, lines_elsewhere_then, TakesAll, items_at, appends_same, appends_before_nothing, proceeds_same, clash, no, same, IsTable, table_of, Kept, Failed, Goes, FinishesOne, FinishesIfEmpty, other_number, line_moved, Offers, proceeds_after_quiet, proceeds_last, OffersRing, OffersHeld}
+use Rattle.hub_core.proofs.Below.{◌≡◌, ◌≢◌, ◌≤◌, ◌^◌, ◌-◌, ◌<◌, ◌||◌, ◌&&◌, ℕ, List, [], ◌∷◌, Bool, true, false, not, nat_eq, refl, sym, ap, ◌∙◌, subst, append-nil, arith, Finished, LinkFailed, Phase, Ending, Item, has_number, Server, entry_at, ring_at, is_gone, is_present, present_entry, StandsFor, Stands, buffered_at, with_pending, taken_of, nothing, Ties, SameLinesElsewhere, lines_elsewhere_then, TakesAll, items_at, appends_same, appends_before_nothing, proceeds_same, clash, no, same, IsTable, table_of, Kept, Failed, Goes, FinishesOne, FinishesIfEmpty, other_number, line_moved, Offers, proceeds_after_quiet, proceeds_last, OffersRing, OffersHeld, HubState, phase_at, has_entry, Some, None, cond}
 use Rattle.ws_kinds.specs.NoteValue as note
 use Rattle.hub_core.proofs.StateLemmas.{same_or_not}
 use Rattle.hub_core.proofs.PutLemmas.{put_elsewhere, put_present, put_proceeds, put_ties, put_waits_other, passed_appends}
@@ -59,14 +59,21 @@ offers_broken {c} {a} x g there ties =
 
 -- ---- and then it is finished, or not
 
-pub offers_only : {c : ℕ} {a b : Server} → OffersHeld c a b → Offers c a b
-offers_only x = record {
+-- who is in phase Ending is shown so
+pub ending_shown : (h : HubState) (c : ℕ) → (entry_at h c).phase ≡ Ending → phase_at h c ≡ Some Ending
+ending_shown h c e =
+    let has : has_entry h.entries c ≡ true = present_entry h.entries c (ap (λ (z : Phase). not (is_gone z)) e) in
+    ap (λ (z : Bool). cond z (Some (entry_at h c).phase) None) has ∙ ap (λ (z : Phase). Some z) e
+
+pub offers_only : {c : ℕ} {a b : Server} → OffersHeld c a b → ((entry_at b.hub c).phase ≡ Ending → ring_at b.hub c ≢ []) → Offers c a b
+offers_only x ending = record {
   ties = x.ties;
   finished = [];
   own = refl;
   rising = tt {0};
   proceeds = x.proceeds;
   appends = x.appends;
+  ending = ending;
   whole = λ d e. absurd (no e);
   waits = x.waits;
   elsewhere = x.elsewhere;
@@ -92,6 +99,7 @@ module _ {c : ℕ} {a m b : Server} (x : OffersHeld c a m) (ending : (entry_at m
     rising = (x.table.first c (present_entry m.hub.entries c there), tt {0});
     proceeds = proceeds_after_quiet (note.gone c Finished ∷ []) a m b x.proceeds (proceeds_last (note.gone c Finished ∷ []) m b one.advances one.fails);
     appends = appends_before_nothing nothing a m b x.appends one.appends;
+    ending = λ e. clash (is_present b.hub c) one.away (ap (λ (z : Phase). not (is_gone z)) e);
     whole = λ d e. number_alone d c (λ q. subst (λ (z : ℕ). items_at a.hub z < 2 ^ 64 - 1 → (items : List Item) → StandsFor z a items → TakesAll z items b.net b.told) (sym q)
         (λ few items s. one.whole (fewer c a m x.appends known there few) items (stood c a m x.appends known there items s))) e;
     waits = λ others. one.appends.waits (x.waits others);
@@ -103,4 +111,4 @@ module _ {c : ℕ} {a m b : Server} (x : OffersHeld c a m) (ending : (entry_at m
   pub offers_finished : FinishesIfEmpty c m b → Offers c a b
   offers_finished f = empty_or_not (ring_at m.hub c)
       (λ e. offers_one (f.empty e))
-      (λ e. subst (λ (z : Server). Offers c a z) (sym (f.holds e)) (offers_only x))
+      (λ e. subst (λ (z : Server). Offers c a z) (sym (f.holds e)) (offers_only x (λ _. e)))

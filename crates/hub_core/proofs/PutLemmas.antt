@@ -1,7 +1,6 @@
 -- What it leaves of a hub that an item is put, or that what is held is offered, whether or not the connection's link fails.
 use Rattle.hub_core.proofs.Below.{◌≤◌, ◌≡◌, ◌≢◌, ◌<◌, ◌+◌, ◌^◌, ◌-◌, inl, ℕ, List, [], ◌∷◌, ◌++◌, Bool, true, false, min, not, ◌&&◌, ◌||◌, length, refl, sym, ap, ◌∙◌, subst, append-nil, arith, ⊎_elim, cases_eq, nat_tests, LinkFailed, NoteValue, spelled, writes, taken, number_of, is_gone_in, is_gone_by_in, tell_by_all, ShortWhereHeld, Entry, Server, entry_at, numbered_at, pending_at, is_gone, is_present, Moves, buffered_at, KeepsLine, Beside, Ties, SameLinesElsewhere, ShortRings, only, line_put, only_here, only_other, ties_same, is_link_failure, TrafficAfter, NetAfter, RoseBy, FailsAfter, KeepsFront, RingsWait, progress_at, tell_at, SameCounts, count_of, Advances, Proceeds, Appends, clash, can_drop, IsSent, TellsRing, TellsFailure, LeavesLinkWhole, Kept, Clear, Backlog, Dropped, Failed, TellsPut, PutsItem, Passes, keeps_of, Waits}
 use Rattle.wire_meaning.specs.Answer as answer
-use Rattle.hub_lines.specs.Items as lines
 use Rattle.socket_core.specs.declared.item.Item.{Item}
 use Rattle.hub_core.proofs.SentLemmas.{sent_outgoing, sent_failures, sent_gone, sent_gone_by, sent_silent, sent_wrote, sent_taken, sent_progress, sent_may, sent_tells, sent_untold, short_still}
 use Rattle.hub_core.proofs.ItemLemmas.{octets_sent, drops_sent}
@@ -192,6 +191,8 @@ module _ {c : ℕ} {may_drop : Bool} {popped : List (List ℕ)} {kept : Kept} {a
         front = λ is gone few items stands. clash (is_present b.hub c) gone (put_present c ∙ was);
         taken = λ gone. clash (is_present a.hub c) gone was;
         drops = λ gone. clash (is_present a.hub c) gone was;
+        fair = λ is gone few items stands fair. clash (is_present b.hub c) gone (put_present c ∙ was);
+        stays = λ gone. clash (is_present a.hub c) gone was;
       }
 
   -- these items are appended for the connection, and nothing for the others
@@ -218,7 +219,7 @@ module _ {c : ℕ} {may_drop : Bool} {popped : List (List ℕ)} {kept : Kept} {a
 
 -- an item is put
 module _ {c : ℕ} (item : Item) {kept : Kept} {a b : Server} (p : PutsItem c item kept a b) (sent : answer.Item) (s : IsSent item sent) where
-  put_moves : kept ≢ Failed → Moves c a.hub.config.limit (lines.can_drop sent) (spelled sent ∷ []) (buffered_at a.hub c) (buffered_at b.hub c) a.net b.net a.told b.told
+  put_moves : kept ≢ Failed → Moves c a.hub.config.limit (answer.can_drop sent) (spelled sent ∷ []) (buffered_at a.hub c) (buffered_at b.hub c) a.net b.net a.told b.told
   put_moves ok =
       subst (λ (z : Bool). Moves c a.hub.config.limit z (spelled sent ∷ []) (buffered_at a.hub c) (buffered_at b.hub c) a.net b.net a.told b.told) (drops_sent item sent s)
       (subst (λ (z : List ℕ). Moves c a.hub.config.limit (can_drop item) (z ∷ []) (buffered_at a.hub c) (buffered_at b.hub c) a.net b.net a.told b.told) (octets_sent item sent s) (p.moves ok))

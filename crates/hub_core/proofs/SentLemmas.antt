@@ -1,5 +1,5 @@
 -- Notes of what became of one connection's octets: they leave each connection as far as it is, and say nothing of others.
-use Rattle.hub_core.proofs.Below.{zero, length, ◌≡◌, ◌≢◌, ℕ, List, [], ◌∷◌, ◌++◌, Option, Some, None, Bool, true, false, cond, suc, nat_eq, ◌||◌, refl, sym, ap, ◌∙◌, subst, arith, ⊎_elim, cases_eq, one_more, nat_tests, list_all, Left, Phase, Head, Open, Leaving, Ending, Gone, NoteValue, gather, total, number_of, took_by, taken_by, dropped_by, writes, taken, dropped_of, is_gone_in, is_gone_by_in, Tell, one_dropped, tell_by, tell_by_all, drops_in, Kept, Clear, Backlog, Dropped, Failed, tell_after, is_of, is_gone_by, is_sending, moved, leaves_open, topics_left, cause_of, is_dropped, drops, short_from, short_after, fell_short, is_silent, ShortWhereHeld, silent_drops, silent_short, AreNoted, is_outgoing, is_link_failure, Progress, progress_by, progress_after, progress_after_all, may_come, may_all_come, unless_gone, clash, and_left, and_right, all_as, none_follow}
+use Rattle.hub_core.proofs.Below.{zero, length, ◌≡◌, ◌≢◌, ℕ, List, [], ◌∷◌, ◌++◌, Option, Some, None, Bool, true, false, cond, suc, nat_eq, ◌||◌, refl, sym, ap, ◌∙◌, subst, arith, ⊎_elim, cases_eq, one_more, nat_tests, list_all, Left, Phase, Head, Open, Leaving, Ending, Gone, NoteValue, gather, total, number_of, took_by, taken_by, dropped_by, writes, taken, dropped_of, is_gone_in, is_gone_by_in, Tell, one_dropped, tell_by, tell_by_all, drops_in, Kept, Clear, Backlog, Dropped, Failed, tell_after, is_of, is_gone_by, is_sending, moved, leaves_open, topics_left, cause_of, short_from, short_after, fell_short, is_silent, ShortWhereHeld, silent_short, AreNoted, is_outgoing, is_link_failure, Progress, progress_by, progress_after, progress_after_all, may_come, may_all_come, unless_gone, clash, and_left, and_right, all_as, none_follow}
 use Rattle.ws_kinds.specs.NoteValue as note
 use Rattle.run_meaning.specs.Notes.{is_gone}
 
@@ -176,16 +176,6 @@ sent_may c x (n ∷ ns) p phase e there =
     (ap (λ (z : Progress). may_all_come x ns z) (one_still c x n p own there) ∙ rest)
 
 -- ---- what the watch tells of a connection of which the notes tell no octets and no drops
-
-none_either : (a b : Bool) → b ≡ false → (b || a) ≡ a
-none_either a b e = ap (λ (z : Bool). z || a) e
-
-pub silent_dropped : (x i : ℕ) (before ns : List NoteValue) → list_all (is_silent x) ns ≡ true → is_dropped x (before ++ ns) i ≡ is_dropped x before i
-silent_dropped x i [] [] e = refl
-silent_dropped x i [] (n ∷ ns) e =
-    none_either (is_dropped x ns i) (drops x i n) (silent_drops x i n (and_left (is_silent x n) (list_all (is_silent x) ns) e))
-    ∙ silent_dropped x i [] ns (and_right (is_silent x n) (list_all (is_silent x) ns) e)
-silent_dropped x i (m ∷ before) ns e = ap (λ (z : Bool). drops x i m || z) (silent_dropped x i before ns e)
 
 pub silent_short_from : (x : ℕ) (b : Bool) (before ns : List NoteValue) → list_all (is_silent x) ns ≡ true → short_from x b (before ++ ns) ≡ short_from x b before
 silent_short_from x b [] [] e = refl

@@ -1,5 +1,5 @@
 -- What connections are after octets went out.
-use Rattle.hub_core.proofs.Below.{◌≡◌, ◌⊎◌, inl, inr, ◌^◌, ◌-◌, ℕ, List, [], ◌∷◌, ◌++◌, Option, Some, None, Bool, true, false, cond, not, length, refl, sym, ap, ◌∙◌, subst, append-nil, list_all, Phase, Head, Open, Leaving, Ending, Gone, NoteValue, Item, is_of, is_open, unless_gone, HubState, Server, is_present, is_gone, entry_at, is_dropped, KeepsLine, is_outgoing, Progress, progress_at, progress_by, progress_after, progress_after_all, standings_at, KeepsFront, items_at, TakesFront, Proceeds, Appends, by_cases, clash, and_left, and_right, append_assoc, length-append, has_topic, front_later, fewer, unaccepted, outgoing_unaccepted, none_stays, away_by_phase}
+use Rattle.hub_core.proofs.Below.{◌≡◌, ◌⊎◌, inl, inr, ◌^◌, ◌-◌, ℕ, List, [], ◌∷◌, ◌++◌, Option, Some, None, Bool, true, false, cond, not, length, refl, sym, ap, ◌∙◌, subst, append-nil, list_all, Phase, Head, Open, Leaving, Ending, Gone, NoteValue, Item, is_of, is_open, unless_gone, HubState, Server, is_present, is_gone, entry_at, KeepsLine, is_outgoing, Progress, progress_at, progress_by, progress_after, progress_after_all, standings_at, KeepsFront, items_at, TakesFront, DropsFairly, Proceeds, Appends, by_cases, clash, and_left, and_right, append_assoc, length-append, has_topic, drops_still, fairly_longer, front_later, fewer, unaccepted, outgoing_unaccepted, none_stays, away_by_phase}
 use Rattle.ws_kinds.specs.NoteValue as note
 
 abbrev progress : Option Phase → List (List ℕ) → Option (ℕ × List ℕ) → Progress
@@ -77,9 +77,6 @@ sent_or_gone a b x c = one (all_outgoing c x.sending (progress_at a.hub c) x.out
 
 -- ---- further items of those who are gone
 
-same_notes : (new old : List NoteValue) → Some new ≡ Some old → new ≡ old
-same_notes new old e = cc
-
 front_more : (c : ℕ) (xs more : List Item) (a b : Server) → is_present b.hub c ≡ false → KeepsFront c xs a b → KeepsFront c (xs ++ more) a b
 front_more c xs more a b away x = record {
   tells = x.tells;
@@ -87,10 +84,15 @@ front_more c xs more a b away x = record {
   count = λ there. clash (is_present b.hub c) away there;
   front = λ was gone few items stands.
       subst (λ (z : List Item). TakesFront c z b.net b.told) (append_assoc items xs more)
-      (front_later c (items ++ xs) more b.net b.net b.told b.told refl (λ notes e. (notes, e)) (λ old new e h i. ap (λ (z : List NoteValue). is_dropped c z i) (same_notes new old (sym h ∙ e)))
+      (front_later c (items ++ xs) more b.net b.net b.told b.told refl (drops_still c b.told)
       (x.front was gone (fewer (items_at a.hub c) (length xs) (length more) (length (xs ++ more)) (2 ^ 64 - 1) (length-append xs more) few) items stands));
   taken = x.taken;
   drops = x.drops;
+  fair = λ was gone few items stands fair.
+      subst (λ (z : List Item). DropsFairly c a.hub.config.limit z b.net b.told) (append_assoc items xs more)
+      (fairly_longer c a.hub.config.limit (items ++ xs) more b.net b.told
+      (x.fair was gone (fewer (items_at a.hub c) (length xs) (length more) (length (xs ++ more)) (2 ^ 64 - 1) (length-append xs more) few) items stands fair));
+  stays = x.stays;
 }
 
 -- what is appended for those who are gone may be told as more

@@ -1,6 +1,6 @@
 -- Hubs of which one connection changes, with what the net and the watch tell of the others.
-use Rattle.hub_core.proofs.Below.{◌≡◌, ◌≢◌, ◌≤◌, ◌+◌, ℕ, List, [], ◌++◌, Option, Some, None, Bool, true, false, cond, nat_eq, not, is_some, ◌||◌, length, refl, sym, ap, ◌∙◌, arith, list_all, Phase, Head, Open, Leaving, Ending, Gone, NoteValue, NetState, taken_of, is_dropped, is_silent, HubState, Entry, Server, entry_at, entry_of, has_entry, is_gone, is_present, phase_at, ring_at, cork_at, pending_at, Others, Beside, SameElsewhere, SameLinesElsewhere, present_entry, beside_of, AreNoted, SameDrops, KeepsFront, items_at, Progress, progress_at, due_of, due_at, topics_at, unless_gone, TableState, IsTable, ChangesOne, clash, no_more, ChangesHub, hub_of, same_told, has_topic, is_pair, topics_of, subst, nat_tests, by_cases, ChangesTopics, is_open, same, of_other, IsHub, tell_of, AreRisingRows, TellingsState, has_row, may_hold}
-use Rattle.hub_core.proofs.SentLemmas.{silent_dropped, split_notes}
+use Rattle.hub_core.proofs.Below.{◌≡◌, ◌≢◌, ◌≤◌, ◌+◌, ℕ, List, [], ◌++◌, Option, Some, None, Bool, true, false, cond, nat_eq, not, is_some, ◌||◌, length, refl, sym, ap, ◌∙◌, arith, list_all, Phase, Head, Open, Leaving, Ending, Gone, NoteValue, NetState, taken_of, is_dropped, is_silent, HubState, Entry, Server, entry_at, entry_of, has_entry, is_gone, is_present, phase_at, ring_at, cork_at, pending_at, Others, Beside, SameElsewhere, SameLinesElsewhere, present_entry, beside_of, AreNoted, SameDrops, fairly_later, silent_undropped, KeepsFront, items_at, Progress, progress_at, due_of, due_at, topics_at, unless_gone, TableState, IsTable, ChangesOne, clash, no_more, ChangesHub, hub_of, same_told, has_topic, is_pair, topics_of, subst, nat_tests, by_cases, ChangesTopics, is_open, same, of_other, IsHub, tell_of, AreRisingRows, TellingsState, has_row, may_hold}
+use Rattle.hub_core.proofs.SentLemmas.{split_notes}
 
 -- ---- phases
 
@@ -165,14 +165,11 @@ taken_same x n0 n1 tells taken = same_told n0.tells n1.tells (n0.taken x) (n1.ta
 pub told_before : (t0 t1 : Option (List NoteValue)) (ns : List NoteValue) → AreNoted t0 ns t1 → (notes : List NoteValue) → t1 ≡ Some notes → (earlier : List NoteValue) × (t0 ≡ Some earlier)
 told_before t0 t1 ns told notes e = let q = split_notes t0 t1 ns notes told e in (q.0, q.1)
 
-same_list : (x y : List NoteValue) → Some x ≡ Some y → y ≡ x
-same_list x y e = cc
+pub drops_none : (x : ℕ) (t0 t1 : Option (List NoteValue)) (ns : List NoteValue) → AreNoted t0 ns t1 → ((i : ℕ) → is_dropped x ns i ≡ false) → SameDrops x t0 t1
+drops_none x t0 t1 ns told none notes e = let q = split_notes t0 t1 ns notes told e in (q.0, ns, q.1, q.2, none)
 
 pub drops_same : (x : ℕ) (t0 t1 : Option (List NoteValue)) (ns : List NoteValue) → AreNoted t0 ns t1 → list_all (is_silent x) ns ≡ true → SameDrops x t0 t1
-drops_same x t0 t1 ns told silent old new eo en i =
-    let q = split_notes t0 t1 ns new told en in
-    let before : q.0 ≡ old = same_list old q.0 (sym eo ∙ q.1) in
-    ap (λ (z : List NoteValue). is_dropped x z i) q.2 ∙ silent_dropped x i q.0 ns silent ∙ ap (λ (z : List NoteValue). is_dropped x z i) before
+drops_same x t0 t1 ns told silent = drops_none x t0 t1 ns told (silent_undropped x ns silent)
 
 -- a connection that does not change, and of which nothing is told
 pub front_still : (c x : ℕ) (a b : Server) (ns : List NoteValue) → x ≢ c → ChangesHub c a.hub b.hub → b.net.tells ≡ a.net.tells → (a.net.tells ≡ true → b.net.taken x ≡ a.net.taken x) → AreNoted a.told ns b.told
@@ -184,4 +181,6 @@ front_still c x a b ns ne change tells taken told silent = record {
   front = λ there gone few items stands. clash (is_present b.hub x) gone (change_present change x ne ∙ there);
   taken = λ gone. taken_same x a.net b.net tells taken;
   drops = λ gone. drops_same x a.told b.told ns told silent;
+  fair = λ there gone few items stands fair. clash (is_present b.hub x) gone (change_present change x ne ∙ there);
+  stays = λ gone limit items. fairly_later x limit items a.net b.net a.told b.told tells (drops_same x a.told b.told ns told silent);
 }

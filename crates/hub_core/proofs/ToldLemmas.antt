@@ -39,7 +39,7 @@ appends_marked h tellings net t = record {
     named = omega arith;
     lines = λ d few. line_still d (server h net t) (server (with_tellings h tellings) net t) (λ there. there) refl refl (λ items s. s) (λ items f. f);
   };
-  fronts = λ d few. let k = front_same d (server h net t) in record { tells = k.tells; told = k.told; count = k.count; front = k.front; taken = k.taken; drops = k.drops };
+  fronts = λ d few. let k = front_same d (server h net t) in record { tells = k.tells; told = k.told; count = k.count; front = k.front; taken = k.taken; drops = k.drops; fair = k.fair; stays = k.stays };
   short = λ s. s;
   waits = λ w. w;
 }

@@ -100,7 +100,7 @@ finishing_next after c old mid new f one above named was_named there none gone =
       known = λ d e. one_of d c ns (f.known d) (λ z. subst (λ (w : ℕ). w ≤ old.hub.named) (sym z) was_named) e;
       whole = λ d e. one_of d c ns
           (λ z few items s. let k = one.appends.fronts d (known_later d old mid f.appends (f.known d z)) in
-          all_later d items mid.net new.net mid.told new.told (k.taken (f.away d z)) k.told (k.drops (f.away d z)) (f.whole d z few items s))
+          all_later d items mid.net new.net mid.told new.told (k.taken (f.away d z)) (k.drops (f.away d z)) (f.whole d z few items s))
           (λ z. subst (λ (w : ℕ). items_at old.hub w < 2 ^ 64 - 1 → (items : List Item) → StandsFor w old items → TakesAll w items new.net new.told) (sym z)
           (λ few items s. one.whole (fewer c old mid f.appends was_named there few) items (stood c old mid f.appends was_named there items s))) e;
       below = λ d few ending empty. at_or_below d after c few
@@ -186,7 +186,7 @@ module _ {after : ℕ} {old : Server} {h : HubState} {net : NetState} {t : Optio
         (λ low. f.below c low (phase_of h c Ending e) (ring_empty (ring_at h c) (cork_at h c ++ joined (pending_at h c)) empty))
         (λ high. none c high (phase_of h c Ending e));
     whole = λ c e few items s. let k = (appends_turn h tellings net t t' told).fronts c (known_later c old (server h net t) f.appends (f.known c e)) in
-        all_later c items net net t t' (k.taken (f.away c e)) k.told (k.drops (f.away c e)) (f.whole c e few items s);
+        all_later c items net net t t' (k.taken (f.away c e)) (k.drops (f.away c e)) (f.whole c e few items s);
   }
 
   pub appends_finished : Appends nothing old (server (with_tellings h tellings) net t')

@@ -98,6 +98,7 @@ impl Hub {
         ensures none { IfNone result (self.new ≡ self.old) }
         ensures some { IfSome result (λ parting. (self.new.config ≡ self.old.config) × (self.new.named ≡ self.old.named)) }
         ensures pairs { self.new.pairs ≡ self.old.pairs }
+        ensures tellings { self.new.tellings ≡ self.old.tellings }
         ensures table { IsTable (table_of self.new) }
     {
         self.table.next_closed()

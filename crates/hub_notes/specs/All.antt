@@ -10,8 +10,8 @@ pub use Rattle.ws_kinds.specs.declared.note.Why.{Why}
 pub use Rattle.ws_kinds.specs.declared.note.Why.TheVariants.{Memory}
 pub use Rattle.wire_meaning.specs.All.{Item}
 pub use Rattle.link_trait.specs.All.{NetState}
-pub use Rattle.run_meaning.specs.All.{accepted_by, gather, has_number, is_accepted, is_gone_by_in, is_gone_in, number_of, taken, writes, closing, data_frame, is_open, leaves_open, moved, sends, topics_left, is_acceptance, is_gone, is_of, is_turn, Standing, needs_memory, unless_gone, why_at, Answers, is_link_failure, is_outgoing, refuses, serves, for_memory, for_reason, is_uncounted, Step, appended_by, by_note, by_order, frames_of, is_for, items_by, items_of, notes_of, of_notes, standing_after, standing_after_all, standing_by, standing_obeys, standings_after, tell_by_all}
-pub use Rattle.hub_lines.specs.All.{Keeps, KeepsLine, Ties, nothing, only, then_also, TakesFront, kept, HubState, Server, entry_at, is_present, is_dropped, taken_of}
+pub use Rattle.run_meaning.specs.All.{accepted_by, dropped_by, ends_short, gather, has_number, is_accepted, is_gone_by_in, is_gone_in, number_of, only_if, taken, total, writes, closing, data_frame, is_open, leaves_open, moved, sends, topics_left, is_acceptance, is_gone, is_of, is_turn, Standing, needs_memory, unless_gone, why_at, Answers, is_link_failure, is_outgoing, refuses, serves, for_memory, for_reason, is_uncounted, Step, appended_by, by_note, by_order, frames_of, is_for, items_by, items_of, notes_of, of_notes, standing_after, standing_after_all, standing_by, standing_obeys, standings_after, tell_by_all}
+pub use Rattle.hub_lines.specs.All.{Keeps, KeepsLine, Ties, nothing, only, then_also, DropsFairly, TakesFront, kept, AreFairNotes, FairFor, IsCounted, HubState, Server, entry_at, is_present, numbered_at, drops, is_dropped, is_silent, short_after, short_from, taken_of, took_by, took_sum}
 pub use Rattle.hub_notes.specs.Answers.{Arrives, FitsCloseFrame, Makes, has_frames}
 pub use Rattle.hub_notes.specs.Calls.{Advances, Appends, Does, Proceeds}
 pub use Rattle.hub_notes.specs.Fronts.{KeepsFront, KeepsFronts, RingsWait, SameDrops, Waits, items_at}

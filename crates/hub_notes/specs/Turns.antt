@@ -54,8 +54,8 @@ pub record EndsTurn (old new : Server) : Type 0 where
   -- the link of one that is finished took all its items
   pub whole : (conn : ℕ) → has_number conn finished ≡ true → items_at old.hub conn < 2 ^ 64 - 1 → (items : List Item) → StandsFor conn old items → TakesAll conn items new.net new.told
 
--- What is held back for a connection is offered to its link. Then it may be gone, as finished, once it is ending and its link took
--- all its items.
+-- What is held back for a connection is offered to its link. Then it is gone, as finished, where it is ending and its link took all
+-- its items.
 pub record Offers (conn : ℕ) (old new : Server) : Type 0 where
   pub ties : Ties new
   -- nobody, or this connection
@@ -64,6 +64,8 @@ pub record Offers (conn : ℕ) (old new : Server) : Type 0 where
   pub rising : Rise 0 finished
   pub proceeds : Proceeds [] (finishes finished) old new
   pub appends : Appends nothing old new
+  -- where it is ending still, octets are held back
+  pub ending : (entry_at new.hub conn).phase ≡ Ending → ring_at new.hub conn ≢ []
   -- the link of one that is finished took all its items
   pub whole : (other : ℕ) → has_number other finished ≡ true → items_at old.hub other < 2 ^ 64 - 1 → (items : List Item) → StandsFor other old items → TakesAll other items new.net new.told
   -- also of this connection, octets are held back only while its link takes nothing

@@ -221,16 +221,6 @@ impl Connections {
         }
     }
 
-    /// Says how many octets are held for a connection at most, by its phase, and that none are held for one that is gone, nor where
-    /// nothing was put. This is a law, and calls for nothing to be done.
-    pub fn rings_are_bounded(&self)
-        ensures bound { (conn : ℕ) → length (entry_of self.now.entries conn).ring ≤ most_held_in self.now.config (entry_of self.now.entries conn).phase }
-        ensures unused { (conn : ℕ) → (entry_of self.now.entries conn).numbered ≡ 0 → (entry_of self.now.entries conn).ring ≡ [] }
-        ensures gone { (conn : ℕ) → is_gone (entry_of self.now.entries conn).phase ≡ true → (entry_of self.now.entries conn).ring ≡ [] }
-    {
-        let _ = &self.table;
-    }
-
     /// Says that no ticks are counted for any connection yet. This is a law, and calls for nothing to be done.
     pub fn no_ticks(&self)
         ensures { (conn : ℕ) → (entry_of self.now.entries conn).quiet ≡ record { ticks = 0; leaving = 0 } }

@@ -1,11 +1,11 @@
 -- Connections that come.
-use Rattle.loop_runner.proofs.Below.{◌||◌, ◌≡◌, ◌≢◌, ◌≤◌, ◌<◌, ◌^◌, ◌-◌, inl, ⊎_elim, ℕ, List, [], ◌∷◌, length, Option, Some, None, Bool, true, false, cond, is_some, refl, sym, ap, ◌∙◌, subst, arith, cases_eq, Conn, HandlerMeaning, Phase, Head, Open, Leaving, Ending, Gone, NoteValue, IsNoted, NetState, Nexts, Shuts, moved, unless_gone, is_reading, is_silent, HubState, Server, server, is_present, has_entry, phase_at, Ties, nothing, Progress, progress_at, progress_by, Appends, IsTable, table_of, Makes, Arrives, Taken, by_cases, clash, of_here, of_other, phase_of_away, IntakeView, AreThere, there_arrived, there_shut, away, Intake, Intakes, max_of, intake_at, IsNew, ChangesIntake, SameIntakes, IsTaken, Every, Steps, Running, Onward, is_kept_at, Beginning, KeptAll, beginning, intake_view, with_view, Moment, TakesIn, reading_at, is_turn, is_link_failure}
+use Rattle.loop_runner.proofs.Below.{◌||◌, ◌≡◌, ◌≢◌, ◌≤◌, ◌<◌, ◌^◌, ◌-◌, inl, ⊎_elim, ℕ, List, [], ◌∷◌, length, Option, Some, None, Bool, true, false, cond, is_some, refl, sym, ap, ◌∙◌, subst, arith, cases_eq, Conn, HandlerMeaning, Phase, Head, Open, Leaving, Ending, Gone, NoteValue, IsNoted, NetState, Nexts, Shuts, moved, unless_gone, is_reading, is_silent, HubState, Server, server, is_present, has_entry, phase_at, Ties, nothing, Progress, progress_at, progress_by, Appends, IsTable, table_of, Makes, Arrives, Taken, by_cases, clash, of_here, of_other, phase_of_away, IntakeView, AreThere, there_arrived, there_shut, away, Intake, Intakes, max_of, intake_at, IsNew, ChangesIntake, SameIntakes, IsTaken, Every, Steps, Running, Onward, is_kept_at, Beginning, KeptAll, beginning, intake_view, with_view, Moment, TakesIn, reading_at, is_turn, is_link_failure, told_none}
 use Rattle.ws_kinds.specs.NoteValue as note
 use Rattle.link_trait.specs.declared.net.NetEvent.TheVariants as event
 use Rattle.loop_runner.proofs.GrowLemmas.{grows_shut}
 use Rattle.loop_runner.proofs.ProgressLemmas.{kept_by, kept_at, phase_read, read_present}
 use Rattle.loop_runner.proofs.RunningLemmas.{running_steps, running_same, running_shut, taken_away}
-use Rattle.loop_runner.proofs.StepLemmas.{onward_makes, onward_still, starts, steps_makes, steps_noted, steps_still, steps_then}
+use Rattle.loop_runner.proofs.StepLemmas.{onward_call, onward_still, starts, steps_makes, steps_noted, steps_still, steps_then, telling_still}
 use Rattle.loop_runner.proofs.ViewLemmas.{new_here, views_new, views_same, views_shut}
 
 -- ---- a connection that is not there
@@ -15,7 +15,7 @@ absent h c table new = by_cases (has_entry h.entries c) (λ e. absurd (let least
 
 -- its link is shut
 steps_shut : (conn : ℕ) (h : HubState) (a b : NetState) (t : Option (List NoteValue)) → Shuts conn a b → is_present h conn ≡ false → Steps Every (server h a t) (server h b t)
-steps_shut conn h a b t x gone = steps_still Every h a b t t (onward_still h h a b t (grows_shut conn h a b t x) x.room (λ told. (x.told told).passed) x.faults)
+steps_shut conn h a b t x gone = steps_still Every h a b t t (onward_still h h a b t (grows_shut conn h a b t x) x.room (λ told. (x.told told).passed) x.faults (telling_still h a b t t [] (told_none t)))
     x.named (λ ties c there. x.live_elsewhere c (other c there) ∙ ties c there) (λ short. short) (λ waits c there some. x.writable_elsewhere c (other c there) ∙ waits c there some)
     (λ there c live. ⊎_elim
     (λ (same : c ≡ conn). clash (b.live c) (ap b.live same ∙ x.live) live)
@@ -112,7 +112,8 @@ module _ (conn : ℕ) (old new : Intakes) (a b : Server) (x : Running Every old 
   }
 
   onward_accepted : Onward 0 0 a b
-  onward_accepted = onward_makes (note.accepted conn) a b makes refl
+  onward_accepted = onward_call 0 0 0 (note.accepted conn ∷ []) a b makes.advances makes.fails.faults refl refl (let now = arrives.1 in omega arith)
+      (λ c low. ap (λ (z : Bool). z || false) (of_other c conn (let ne : conn ≢ c = omega arith in ne)))
 
 -- ---- what comes of it
 

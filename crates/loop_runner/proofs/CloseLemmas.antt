@@ -1,10 +1,10 @@
 -- Closed events, one after another.
-use Rattle.loop_runner.proofs.Below.{◌≡◌, ◌≤◌, ◌<◌, inl, ⊎_elim, ℕ, zero, suc, List, [], ◌∷◌, ◌++◌, Option, Some, None, Bool, true, false, cond, is_some, ◌||◌, refl, sym, ap, ◌∙◌, subst, arith, cases_eq, Phase, EventValue, NoteValue, IsNoted, NetState, is_accepted, is_open, accepted_more, HubState, Server, server, PartingValue, entry_of, has_entry, phase_at, Ties, nothing, Progress, progress_at, Appends, IsTable, TakesDue, table_of, told_one, told_is, due_taken, IntakeView, event_for, due_accepted, sound_closed, sound_serves, closed_given, Intakes, Every, Steps, is_kept_at, weight_of, weight_at, weight_below, Beginning, KeptAll, meaning_of, HandsOut, ServesOrders}
+use Rattle.loop_runner.proofs.Below.{◌≡◌, ◌≤◌, ◌<◌, inl, ⊎_elim, ℕ, zero, suc, List, [], ◌∷◌, ◌++◌, Option, Some, None, Bool, true, false, cond, is_some, ◌||◌, refl, sym, ap, ◌∙◌, subst, arith, cases_eq, Phase, EventValue, NoteValue, IsNoted, NetState, is_accepted, is_open, accepted_more, HubState, Server, server, PartingValue, entry_of, has_entry, phase_at, Ties, nothing, Progress, progress_at, Appends, IsTable, TakesDue, table_of, told_one, told_is, due_taken, IntakeView, event_for, due_accepted, sound_closed, sound_serves, closed_given, Intakes, Every, Steps, is_kept_at, weight_of, weight_at, weight_below, Beginning, KeptAll, meaning_of, HandsOut, ServesOrders, told_none, owed_aside, TellingValue, tell_of, told_call}
 use Rattle.ws_kinds.specs.EventValue as event
 use Rattle.ws_kinds.specs.NoteValue as note
 use Rattle.loop_runner.proofs.GrowLemmas.{grows_hub, grows_noted, grows_served, grows_then}
 use Rattle.loop_runner.proofs.OpenLemmas.{opens_none, opens_served, opens_then}
-use Rattle.loop_runner.proofs.KeepLemmas.{keep_on}
+use Rattle.loop_runner.proofs.KeepLemmas.{keep_on, served_told}
 use Rattle.loop_runner.proofs.ProgressLemmas.{Stays, Calm, stays_same, calm_same, kept_by, weight_by, present_at, kept_at, reading_after, phases_read}
 use Rattle.loop_runner.proofs.StepLemmas.{onward_still}
 
@@ -59,9 +59,10 @@ module _ (p : PartingValue) (a b : HubState) (x : TakesDue (Some p) (table_of a)
   calm_taken : (c : ℕ) → Calm (progress_at a c) (progress_at b c)
   calm_taken = by_conn Calm calm_same (λ q. record { phase = λ r. inl refl; weight = no_more (is_open q.phase) q.due })
 
-  pub steps_taken : (net : NetState) (t : Option (List NoteValue)) → Appends nothing (server a net t) (server b net t) → (Ties (server a net t) → Ties (server b net t)) → IsTable (table_of b) → Steps Every (server a net t) (server b net t)
-  steps_taken net t app ties table = record {
-    onward = onward_still a b net net t (grows_hub a b net t) (omega arith) (λ _. refl) (omega arith);
+  pub steps_taken : (net : NetState) (t : Option (List NoteValue)) → b.tellings ≡ a.tellings → Appends nothing (server a net t) (server b net t) → (Ties (server a net t) → Ties (server b net t)) → IsTable (table_of b) → Steps Every (server a net t) (server b net t)
+  steps_taken net t tellings app ties table = record {
+    onward = onward_still a b net net t (grows_hub a b net t) (omega arith) (λ _. refl) (omega arith)
+        (owed_aside [] (server a net t) (server b net t) (told_none t) (let same = x.4.named in omega arith) phase_taken (λ c. ap (λ (z : List TellingValue). tell_of z c) tellings));
     config = app.lines.config;
     named = x.4.named;
     net_named = refl;
@@ -131,4 +132,6 @@ module _ {S : Type 0} (b : Beginning S) (parting : PartingValue) (intakes : Inta
         kept = (closed_given r b.config b.table ns ms parting given a s m d now next views x.kept out.taken out.pairs out.appends refl refl refl refl (told_one s.told t n noted) event_is state served told x.whole whole).1;
         sound = (sound_serves r b.config _ _ conn 0 (b.said next given) (ns ++ n ∷ []) ms m d served told_m told first.1 accepted first.0).0;
         whole = whole;
+        told = served_told b replies (ns ++ n ∷ []) ms conn (b.said next given) m d served told_m told
+            (told_call r ns (n ∷ []) hub s.hub refl refl (λ _ c. ap (λ (z : List TellingValue). tell_of z c) out.tellings) x.told);
       })

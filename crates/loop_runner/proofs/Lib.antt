@@ -21,5 +21,6 @@ pub mod TurnKeeps
 pub mod RightLemmas
 pub mod ThroughoutLemmas
 pub mod TurningLemmas
+pub mod TellingLemmas
 pub mod Below
 pub mod All

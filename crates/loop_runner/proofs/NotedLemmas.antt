@@ -1,10 +1,18 @@
 -- What the notes that are added tell: turns, and links that failed.
-use Rattle.loop_runner.proofs.Below.{◌≡◌, ◌≤◌, ◌+◌, ◌-◌, ◌^◌, ◌⊎◌, inl, inr, ℕ, suc, List, [], ◌∷◌, ◌++◌, Option, Some, None, Bool, true, false, cond, refl, sym, ap, ◌∙◌, subst, arith, list_any, NoteValue, AreNoted, NetState, number_of, is_turn, is_link_failure, HubState, Server, server, or_left, or_right, RoseBy, number_then, OfNotes, NotesTurns, RisesBeyond}
+use Rattle.loop_runner.proofs.Below.{◌≡◌, ◌≤◌, ◌+◌, ◌-◌, ◌^◌, ◌⊎◌, inl, inr, ℕ, suc, List, [], ◌∷◌, ◌++◌, Option, Some, None, Bool, true, false, cond, refl, sym, ap, ◌∙◌, subst, arith, list_any, NoteValue, AreNoted, NetState, number_of, is_turn, is_link_failure, HubState, Server, server, or_left, or_right, RoseBy, number_then, OfNotes, NotesTurns, RisesBeyond, ◌||◌}
 
 pub number_none : {A : Type 0} (test : A → Bool) (xs : List A) → list_any test xs ≡ false → number_of test xs ≡ 0
 number_none test [] e = refl
 number_none test (x ∷ xs) e =
     ap (λ (z : Bool). cond z (suc (number_of test xs)) (number_of test xs)) (or_left (test x) (list_any test xs) e) ∙ number_none test xs (or_right (test x) (list_any test xs) e)
+
+pub none_numbered : {A : Type 0} (test : A → Bool) (xs : List A) → number_of test xs ≡ 0 → list_any test xs ≡ false
+none_numbered test [] e = refl
+none_numbered test (x ∷ xs) e = one (test x) (none_numbered test xs) e
+  where
+    one : (b : Bool) → (number_of test xs ≡ 0 → list_any test xs ≡ false) → cond b (suc (number_of test xs)) (number_of test xs) ≡ 0 → (b || list_any test xs) ≡ false
+    one true rest e = absurd (omega arith)
+    one false rest e = rest e
 
 -- ---- of the notes then and now
 

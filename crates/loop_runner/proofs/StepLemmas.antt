@@ -1,40 +1,48 @@
 -- What the calls of a hub keep.
-use Rattle.loop_runner.proofs.Below.{◌≡◌, ◌≤◌, ◌+◌, ◌-◌, ◌^◌, ◌⊎◌, inl, inr, ⊎_elim, ℕ, suc, List, [], ◌∷◌, ◌++◌, Option, Bool, true, false, cond, not, ◌&&◌, ◌||◌, refl, sym, ap, ◌∙◌, subst, arith, append_assoc, list_any, list_all, ConfigValue, NoteValue, OrderValue, IsNoted, AreNoted, Item, NetState, LinkFailed, is_of, is_acceptance, is_turn, is_gone_in, number_of, Standing, is_reading, AreThere, Step, notes_of, of_notes, standings_after, is_outgoing, is_link_failure, Answers, Performs, serves, refuses, notes_of-append, notes_of-notes, list_any-append, is_silent, HubState, Server, server, is_present, phase_at, ring_at, Ties, ShortRings, nothing, short_silent, progress_at, progress_by_steps, RingsWait, NetAfter, RoseBy, Advances, Proceeds, Appends, Makes, IsTable, table_of, EndsTurn, finishes, clash, or_left, or_right, and_left, and_right, Sends, Notes, GivesOctets, LosesLink, Every, But, Grows, RisesBeyond, Onward, StepsWith, Steps, ServesOrders, number_then, rose_same, told_one, steps_of_notes, not_true, ◌≢◌, cases_eq, by_cases, Waits, OffersIfThere, Offers}
+use Rattle.loop_runner.proofs.Below.{◌≡◌, ◌≤◌, ◌+◌, ◌-◌, ◌^◌, ◌⊎◌, inl, inr, ⊎_elim, ℕ, suc, List, [], ◌∷◌, ◌++◌, Option, Bool, true, false, cond, not, ◌&&◌, ◌||◌, refl, sym, ap, ◌∙◌, subst, arith, append_assoc, list_any, list_all, ConfigValue, NoteValue, OrderValue, IsNoted, AreNoted, Item, NetState, LinkFailed, is_of, is_acceptance, is_turn, is_gone_in, number_of, Standing, is_reading, AreThere, Step, notes_of, of_notes, standings_after, is_outgoing, is_link_failure, Answers, Performs, serves, refuses, notes_of-append, notes_of-notes, list_any-append, is_silent, HubState, Server, server, is_present, phase_at, ring_at, Ties, ShortRings, nothing, short_silent, progress_at, progress_by_steps, RingsWait, NetAfter, RoseBy, Advances, Proceeds, Appends, Makes, IsTable, table_of, EndsTurn, finishes, clash, or_left, or_right, and_left, and_right, Sends, Notes, GivesOctets, LosesLink, Every, But, Grows, RisesBeyond, Onward, StepsWith, Steps, ServesOrders, number_then, rose_same, told_one, steps_of_notes, not_true, ◌≢◌, cases_eq, by_cases, Waits, OffersIfThere, Offers, KeepsOwed, owed_aside, owed_call, owed_steps, owed_then, is_accepted, unaccepted, told_none}
 use Rattle.ws_kinds.specs.NoteValue as note
-use Rattle.loop_runner.proofs.NotedLemmas.{links_both, links_noted, links_paid, links_still, number_none, turns_both, turns_noted, turns_same}
+use Rattle.loop_runner.proofs.NotedLemmas.{links_both, links_noted, links_paid, links_still, none_numbered, number_none, turns_both, turns_noted, turns_same}
 use Rattle.loop_runner.proofs.GrowLemmas.{grows_net, grows_noted, grows_same, grows_then}
 use Rattle.loop_runner.proofs.ProgressLemmas.{begins, begins_of, Stays, Calm, stays_after, calm_after, reading_after, present_after, phases_read, stays_or_leaves, kept_at, read_present}
 
 -- ---- what every step keeps
 
 pub onward_still : (h g : HubState) (a b : NetState) (t : Option (List NoteValue)) → Grows (server h a t) (server g b t) → b.room ≤ a.room → (a.tells ≡ true → b.passed ≡ a.passed) → a.faults ≤ b.faults
-    → Onward 0 0 (server h a t) (server g b t)
-onward_still h g a b t grows room passed faults = record { grows = grows; turns = turns_same t; room = room; passed = passed; faults = faults; links = links_still 0 h g a b t (inl (omega arith)) }
+    → KeepsOwed 0 (server h a t) (server g b t) → Onward 0 0 (server h a t) (server g b t)
+onward_still h g a b t grows room passed faults telling =
+    record { grows = grows; turns = turns_same t; room = room; passed = passed; faults = faults; links = links_still 0 h g a b t (inl (omega arith)); telling = telling }
+
+-- the hub stays
+pub telling_still : (h : HubState) (a b : NetState) (t t' : Option (List NoteValue)) (ms : List NoteValue) → AreNoted t ms t' → KeepsOwed 0 (server h a t) (server h b t')
+telling_still h a b t t' ms told = owed_aside ms (server h a t) (server h b t') told (omega arith) (λ c. refl) (λ c. refl)
 
 -- these notes were added; the count rose by some of the links that failed, and the others failed before
 onward_owed : (count fails owed : ℕ) (ms : List NoteValue) (a b : Server) → AreNoted a.told ms b.told → NetAfter ms a.net b.net → RoseBy fails a.net.faults b.net.faults → number_of is_link_failure ms ≡ fails + owed
-    → number_of is_turn ms ≡ count → Onward count owed a b
-onward_owed count fails owed ms a b told net rose all turns = record {
+    → number_of is_turn ms ≡ count → KeepsOwed count a b → Onward count owed a b
+onward_owed count fails owed ms a b told net rose all turns telling = record {
   grows = grows_net ms a b told net;
   turns = turns_noted count ms a.told b.told told turns;
   room = net.room;
   passed = λ t. (net.told t).passed;
   faults = rose.least;
   links = links_noted fails owed ms a b all told rose;
+  telling = telling;
 }
 
-onward_noted : (count : ℕ) (ms : List NoteValue) (a b : Server) → AreNoted a.told ms b.told → NetAfter ms a.net b.net → RoseBy (number_of is_link_failure ms) a.net.faults b.net.faults → number_of is_turn ms ≡ count
-    → Onward count 0 a b
-onward_noted count ms a b told net rose turns = onward_owed count (number_of is_link_failure ms) 0 ms a b told net rose (omega arith) turns
+-- a call, which accepts no number again
+pub onward_call : (count fails owed : ℕ) (ms : List NoteValue) (a b : Server) → Advances ms a b → RoseBy fails a.net.faults b.net.faults → number_of is_link_failure ms ≡ fails + owed → number_of is_turn ms ≡ count
+    → a.hub.named ≤ b.hub.named → ((c : ℕ) → c ≤ a.hub.named → is_accepted c ms ≡ false) → Onward count owed a b
+onward_call count fails owed ms a b x rose all turns named new = onward_owed count fails owed ms a b x.told x.net rose all turns
+    (owed_call count ms a b x (λ none. none_numbered is_turn ms (turns ∙ none)) named new)
 
-pub onward_makes : (n : NoteValue) (a b : Server) → Makes (n ∷ []) a b → is_turn n ≡ false → Onward 0 0 a b
-onward_makes n a b x none = onward_noted 0 (n ∷ []) a b x.advances.told x.advances.net x.fails.faults (ap (λ (z : Bool). cond z 1 0) none)
-
-onward_proceeds : (count : ℕ) (first last : List NoteValue) (a b : Server) (x : Proceeds first last a b) → number_of is_turn (first ++ (x.sending ++ last)) ≡ count → Onward count 0 a b
-onward_proceeds count first last a b x turns = onward_noted count (first ++ (x.sending ++ last)) a b x.advances.told x.advances.net x.fails.faults turns
+onward_proceeds : (count : ℕ) (first last : List NoteValue) (a b : Server) (x : Proceeds first last a b) → number_of is_turn (first ++ (x.sending ++ last)) ≡ count → b.hub.named ≡ a.hub.named
+    → list_any is_acceptance (first ++ (x.sending ++ last)) ≡ false → Onward count 0 a b
+onward_proceeds count first last a b x turns named none =
+    let all = first ++ (x.sending ++ last) in
+    onward_call count (number_of is_link_failure all) 0 all a b x.advances x.fails.faults (omega arith) turns (omega (arith, named)) (λ c _. unaccepted all c none)
 
 onward_same : (s : Server) → Onward 0 0 s s
-onward_same s = onward_still s.hub s.hub s.net s.net s.told (grows_same s) (omega arith) (λ t. refl) (omega arith)
+onward_same s = onward_still s.hub s.hub s.net s.net s.told (grows_same s) (omega arith) (λ t. refl) (omega arith) (telling_still s.hub s.net s.net s.told s.told [] (told_none s.told))
 
 pub onward_then : {m o n p : ℕ} (a b d : Server) → Onward m o a b → Onward n p b d → Onward (m + n) (o + p) a d
 onward_then {m} {o} {n} {p} a b d x y = record {
@@ -44,13 +52,14 @@ onward_then {m} {o} {n} {p} a b d x y = record {
   passed = λ t. y.passed (x.grows.tells ∙ t) ∙ x.passed t;
   faults = let p = x.faults in let q = y.faults in omega arith;
   links = links_both 0 o 0 p a b d x.links y.links y.faults;
+  telling = owed_then m n a b d x.telling y.telling;
 }
 
 -- a link failed, and then this is noted
 onward_paid : (a b d : Server) → Onward 0 0 a b → RisesBeyond 1 0 a b → Onward 0 1 b d → Onward 0 0 a d
 onward_paid a b d x failed y =
     let z = onward_then a b d x y in
-    record { grows = z.grows; turns = z.turns; room = z.room; passed = z.passed; faults = z.faults; links = links_paid a d (links_both 1 0 0 1 a b d failed y.links y.faults) }
+    record { grows = z.grows; turns = z.turns; room = z.room; passed = z.passed; faults = z.faults; links = links_paid a d (links_both 1 0 0 1 a b d failed y.links y.faults); telling = z.telling }
 
 -- ---- notes that begin nothing
 
@@ -179,9 +188,10 @@ steps_first P conn n f a b x calm none =
     let sent = call_begins (n ∷ []) [] a b x.proceeds refl in
     let ns = x.proceeds.sending ++ [] in
     let turns = ap (λ (z : Bool). cond z (suc (number_of is_turn ns)) (number_of is_turn ns)) (or_right (is_acceptance n) (is_turn n) none) ∙ turnless ns sent in
-    steps_of P (n ∷ ns) f a b x.proceeds.advances (onward_proceeds 0 (n ∷ []) [] a b x.proceeds turns) x.appends x.ties x.table x.named
+    let calmly : list_any is_acceptance (n ∷ ns) ≡ false = ap (λ (z : Bool). z || list_any is_acceptance ns) (or_left (is_acceptance n) (is_turn n) none) ∙ accepts_none ns sent in
+    steps_of P (n ∷ ns) f a b x.proceeds.advances (onward_proceeds 0 (n ∷ []) [] a b x.proceeds turns x.named calmly) x.appends x.ties x.table x.named
     (λ c p. ap (λ (z : Bool). z || list_any (begins_of c) ns) (calm c p) ∙ begin_none c ns sent)
-    (ap (λ (z : Bool). z || list_any is_acceptance ns) (or_left (is_acceptance n) (is_turn n) none) ∙ accepts_none ns sent)
+    calmly
 
 -- and nothing for any
 pub steps_sends : {conn : ℕ} {n : NoteValue} {f : ℕ → List Item} (a b : Server) → Sends conn (n ∷ []) f a b → starts n ≡ false → Steps Every a b
@@ -190,8 +200,10 @@ steps_sends {conn} {n} {f} a b x calm = steps_first Every conn n f a b x (λ c _
 
 pub steps_makes : (n : NoteValue) (a b : Server) → Makes (n ∷ []) a b → Appends nothing a b → Ties b → IsTable (table_of b.hub) → b.hub.named ≡ a.hub.named → starts n ≡ false → Steps Every a b
 steps_makes n a b x app ties table named calm =
-    steps_of Every (n ∷ []) nothing a b x.advances (onward_makes n a b x (starts_turn n calm)) app ties table named
-    (λ c _. ap (λ (z : Bool). z || false) (none_of c n (starts_begins n calm))) (ap (λ (z : Bool). z || false) (begins_more n (starts_begins n calm)))
+    let none : list_any is_acceptance (n ∷ []) ≡ false = ap (λ (z : Bool). z || false) (begins_more n (starts_begins n calm)) in
+    steps_of Every (n ∷ []) nothing a b x.advances
+    (onward_call 0 (number_of is_link_failure (n ∷ [])) 0 (n ∷ []) a b x.advances x.fails.faults (omega arith) (ap (λ (z : Bool). cond z 1 0) (starts_turn n calm)) (omega (arith, named)) (λ c _. unaccepted (n ∷ []) c none))
+    app ties table named (λ c _. ap (λ (z : Bool). z || false) (none_of c n (starts_begins n calm))) none
 
 pub steps_notes : {conn : ℕ} {n : NoteValue} (a b : Server) → Notes conn (n ∷ []) a b → starts n ≡ false → Steps Every a b
 steps_notes {conn} {n} a b x calm = steps_makes n a b x.makes x.appends x.ties x.table x.named calm
@@ -202,7 +214,8 @@ steps_given a b x = steps_makes (note.given _ _) a b x.makes x.appends x.ties x.
 -- a read of the link failed before
 steps_lost : (conn : ℕ) (a b : Server) → LosesLink conn a b → StepsWith 0 1 Every a b
 steps_lost conn a b x =
-    steps_of Every (note.gone conn LinkFailed ∷ []) nothing a b x.advances (onward_owed 0 0 1 (note.gone conn LinkFailed ∷ []) a b x.advances.told x.advances.net x.fails.faults refl refl) x.appends x.ties x.table x.named (λ d _. refl) refl
+    let ms = note.gone conn LinkFailed ∷ [] in
+    steps_of Every ms nothing a b x.advances (onward_call 0 0 1 ms a b x.advances x.fails.faults refl refl (let same = x.named in omega arith) (λ c _. refl)) x.appends x.ties x.table x.named (λ d _. refl) refl
 
 finishes_start : (conns : List ℕ) → list_any starts (finishes conns) ≡ false
 finishes_start [] = refl
@@ -213,7 +226,7 @@ steps_offered : (conn : ℕ) (a b : Server) → Offers conn a b → Steps Every 
 steps_offered conn a b x =
     let last = finishes x.finished in
     let none : list_any starts (x.proceeds.sending ++ last) ≡ false = call_begins [] last a b x.proceeds (finishes_start x.finished) in
-    steps_of Every (x.proceeds.sending ++ last) nothing a b x.proceeds.advances (onward_proceeds 0 [] last a b x.proceeds (turnless (x.proceeds.sending ++ last) none)) x.appends x.ties x.table x.named
+    steps_of Every (x.proceeds.sending ++ last) nothing a b x.proceeds.advances (onward_proceeds 0 [] last a b x.proceeds (turnless (x.proceeds.sending ++ last) none) x.named (accepts_none (x.proceeds.sending ++ last) none)) x.appends x.ties x.table x.named
     (λ c _. begin_none c (x.proceeds.sending ++ last) none) (accepts_none (x.proceeds.sending ++ last) none)
 
 -- the end of a turn
@@ -222,12 +235,14 @@ steps_ended a b x app ties table named =
     let front = x.proceeds.sending ++ finishes x.finished in
     let none : list_any starts front ≡ false = any_then starts x.proceeds.sending (finishes x.finished) (outgoing_starts x.proceeds.sending x.proceeds.outgoing) (finishes_start x.finished) in
     let all : front ++ note.turn ∷ [] ≡ x.proceeds.sending ++ (finishes x.finished ++ note.turn ∷ []) = append_assoc x.proceeds.sending (finishes x.finished) (note.turn ∷ []) in
+    let unaccepting : list_any is_acceptance (x.proceeds.sending ++ (finishes x.finished ++ note.turn ∷ [])) ≡ false =
+    ap (list_any is_acceptance) (sym all) ∙ any_then is_acceptance front (note.turn ∷ []) (accepts_none front none) refl in
     steps_of Every (x.proceeds.sending ++ (finishes x.finished ++ note.turn ∷ [])) nothing a b x.proceeds.advances
     (onward_proceeds 1 [] (finishes x.finished ++ note.turn ∷ []) a b x.proceeds
-    (ap (number_of is_turn) (sym all) ∙ number_then is_turn front (note.turn ∷ []) ∙ ap (λ (z : ℕ). z + 1) (turnless front none)))
+    (ap (number_of is_turn) (sym all) ∙ number_then is_turn front (note.turn ∷ []) ∙ ap (λ (z : ℕ). z + 1) (turnless front none)) named unaccepting)
     app ties table named
     (λ c _. ap (list_any (begins_of c)) (sym all) ∙ any_then (begins_of c) front (note.turn ∷ []) (begin_none c front none) refl)
-    (ap (list_any is_acceptance) (sym all) ∙ any_then is_acceptance front (note.turn ∷ []) (accepts_none front none) refl)
+    unaccepting
 
 -- orders that were served
 pub steps_served : (conn : ℕ) (orders : List OrderValue) (a b : Server) → ServesOrders conn orders a b → Ties b → IsTable (table_of b.hub) → b.hub.named ≡ a.hub.named → Steps Every a b
@@ -236,7 +251,8 @@ steps_served conn orders a b x ties table named =
     let none = performs_start _ _ conn 0 _ orders x.steps x.performs in
     steps_by Every x.steps a b
     (record {
-      onward = onward_noted 0 (notes_of x.steps) a b does.told does.net does.fails.faults (turnless (notes_of x.steps) none);
+      onward = onward_owed 0 (number_of is_link_failure (notes_of x.steps)) 0 (notes_of x.steps) a b does.told does.net does.fails.faults (omega arith) (turnless (notes_of x.steps) none)
+          (owed_steps (λ _. []) x.steps a b does (all_none starts is_turn starts_turn (notes_of x.steps) none) (λ c _. unaccepted (notes_of x.steps) c (accepts_none (notes_of x.steps) none)));
       progress = does.progress;
       net = does.net;
       config = does.appends.lines.config;
@@ -326,6 +342,7 @@ steps_noted n h net t t' noted silent none = steps_still Every h net net t t'
       passed = λ _. refl;
       faults = omega arith;
       links = links_noted 0 0 (n ∷ []) (server h net t) (server h net t') (ap (λ (z : Bool). cond z 1 0) (or_right (is_turn n) (is_link_failure n) none)) (told_one t t' n noted) (rose_same net.faults);
+      telling = telling_still h net net t t' (n ∷ []) (told_one t t' n noted);
     })
     refl (λ ties. ties) (λ short c there. short_silent c (ring_at h c) t t' n noted (silent c) (short c there)) (λ waits. waits) (λ there. there) (λ c p r. refl)
 

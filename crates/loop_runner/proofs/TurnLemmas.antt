@@ -1,12 +1,12 @@
 -- What the net answers, and how a turn begins and ends.
-use Rattle.loop_runner.proofs.Below.{◌≡◌, ◌≤◌, ◌<◌, ◌+◌, ◌-◌, ◌^◌, inl, inr, ⊎_elim, ℕ, List, [], ◌∷◌, ◌++◌, Option, Bool, true, false, cond, nat_lt, ◌&&◌, ◌||◌, not, is_some, Some, None, refl, sym, ap, ◌∙◌, subst, arith, append-nil, cases_eq, nat_tests, list_all, list_any, NoteValue, Rose, NetState, Same, Reads, CountsFault, CountsNetReadFaults, Nexts, CountsNextFaults, passing, is_rest, NetEvent, NetRead, number_of, is_reading, list_all-append, HubState, Entry, Server, server, is_present, is_gone, has_entry, entry_of, phase_at, Settled, clash, and_left, and_right, AreThere, there_same, Turned, Intake, Intakes, intake_at, max_of, Ready, But, RisesBeyond, Onward, Steps, is_between, goes_on, ending, GrowsBy, AreBetween, AreTurns, Passes, PassesBetween, PassesTurn, PassesTurns, FailsAs, FailsBeyondLinks, number_then}
+use Rattle.loop_runner.proofs.Below.{◌≡◌, ◌≤◌, ◌<◌, ◌+◌, ◌-◌, ◌^◌, inl, inr, ⊎_elim, ℕ, List, [], ◌∷◌, ◌++◌, Option, Bool, true, false, cond, nat_lt, ◌&&◌, ◌||◌, not, is_some, Some, None, refl, sym, ap, ◌∙◌, subst, arith, append-nil, cases_eq, nat_tests, list_all, list_any, NoteValue, Rose, NetState, Same, Reads, CountsFault, CountsNetReadFaults, Nexts, CountsNextFaults, passing, is_rest, NetEvent, NetRead, number_of, is_reading, list_all-append, HubState, Entry, Server, server, is_present, is_gone, has_entry, entry_of, phase_at, Settled, clash, and_left, and_right, AreThere, there_same, Turned, Intake, Intakes, intake_at, max_of, Ready, But, RisesBeyond, Onward, Steps, is_between, goes_on, ending, GrowsBy, AreBetween, AreTurns, Passes, PassesBetween, PassesTurn, PassesTurns, FailsAs, FailsBeyondLinks, number_then, told_none}
 use Rattle.link_trait.specs.declared.net.NetEvent.TheVariants as event
 use Rattle.link_trait.specs.declared.net.NetRead.TheVariants as read
 use Rattle.loop_runner.specs.declared.turn.Turned.TheVariants as turned
 use Rattle.loop_runner.proofs.AnswerLemmas.{grows_none, grows_last, grows_next}
 use Rattle.loop_runner.proofs.GrowLemmas.{grows_read}
 use Rattle.loop_runner.proofs.NotedLemmas.{links_both, links_still, number_none}
-use Rattle.loop_runner.proofs.StepLemmas.{onward_still, steps_still}
+use Rattle.loop_runner.proofs.StepLemmas.{onward_still, steps_still, telling_still}
 
 -- an answer that leaves the links live leaves each live one that of an entry which is not gone
 pub there_next : (answer : NetEvent) (h : HubState) (a b : NetState) (t : Option (List NoteValue)) → Nexts answer a b → Same a.live b.live → AreThere (server h a t) → AreThere (server h b t)
@@ -39,7 +39,7 @@ links_next answer h a b t n = links_still 0 h h a b t (inl (let least = next_lea
 
 pub steps_read : (conn : ℕ) (space : List ℕ) (result : NetRead) (h : HubState) (a b : NetState) (t : Option (List NoteValue)) → Reads conn space result a b → Steps (But conn) (server h a t) (server h b t)
 steps_read conn space result h a b t x = steps_still (But conn) h a b t t
-    (onward_still h h a b t (grows_read conn space result h a b t x) x.room (λ told. (x.told told).passed) (read_least result a.faults b.faults x.faults))
+    (onward_still h h a b t (grows_read conn space result h a b t x) x.room (λ told. (x.told told).passed) (read_least result a.faults b.faults x.faults) (telling_still h a b t t [] (told_none t)))
     x.named (λ ties c there. x.live c ∙ ties c there) (λ short. short) (λ waits c there some. x.writable c ∙ waits c there some) (there_same (server h a t) b x.live) (λ c ne r. x.due_elsewhere c ne)
 
 -- ---- answers

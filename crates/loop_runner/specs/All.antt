@@ -28,19 +28,20 @@ pub use Rattle.frame_reader.specs.declared.reader.State.{State}
 pub use Rattle.frame_reader.specs.declared.reader.State.TheVariants.{AtFrameStart, Ended, InDataFrame}
 pub use Rattle.route_table.specs.All.{RouteTable}
 pub use Rattle.upgrade_head.specs.All.{Judged, Verdict, admit, answer_text, refuse, undecided, refusal_text, reply_text}
-pub use Rattle.run_meaning.specs.All.{is_accepted, is_gone_in, number_of, LivedThroughout, heard, is_frame_heard, last_frame, read, cause_of, closing, is_open, leaves_open, moved, phase, plain, topics_left, world, Follows, arrival, is_acceptance, is_of, is_turn, Standing, unless_gone, Answers, Performs, is_link_failure, is_outgoing, refuses, serves, AreAdmitted, AreReplies, is_opened, is_opened_in, Right, entries, Meaning, every_topic, is_reading, Step, by_note, by_order, notes_of, of_notes, standings_after}
-pub use Rattle.hub_lines.specs.All.{Settled, ShortRings, Ties, nothing, only, served, Entry, HubState, PartingValue, Server, entry_at, entry_of, has_entry, is_gone, is_present, phase_at, ring_at, server, is_silent}
-pub use Rattle.hub_notes.specs.All.{Arrives, Makes, has_frames, Advances, Appends, Proceeds, RingsWait, Waits, NetAfter, RoseBy, Progress, due_at, progress_after, progress_after_all, progress_at, progress_by, progress_by_steps, progress_obeys, standings_at, AreAbove, AreRising, IsTable, TakesDue, table_of, EndsTurn, Offers, finishes}
+pub use Rattle.run_meaning.specs.All.{is_accepted, is_gone_in, number_of, LivedThroughout, heard, is_frame_heard, last_frame, read, cause_of, closing, is_open, leaves_open, moved, phase, plain, topics_left, world, Follows, arrival, is_acceptance, is_of, is_turn, Standing, unless_gone, Answers, Performs, is_link_failure, is_outgoing, refuses, serves, AreAdmitted, AreReplies, is_opened, is_opened_in, Right, entries, Meaning, every_topic, BetweenTurns, is_reading, after_turn, at_first, Step, by_note, by_order, notes_of, of_notes, standings_after, has_news, is_telling, AreTold, tell}
+pub use Rattle.hub_lines.specs.All.{Settled, ShortRings, Ties, nothing, only, served, Entry, HubState, PartingValue, Server, TellingValue, entry_at, entry_of, has_entry, is_gone, is_present, phase_at, ring_at, server, is_silent}
+pub use Rattle.hub_notes.specs.All.{Arrives, Makes, has_frames, Advances, Appends, Proceeds, RingsWait, Waits, NetAfter, RoseBy, NoneToTell, news_at, Progress, due_at, progress_after, progress_after_all, progress_at, progress_by, progress_by_steps, progress_obeys, standings_at, AreAbove, AreRising, IsTable, TakesDue, table_of, TellsBy, tell_at, tell_of, EndsTurn, Offers, finishes}
 pub use Rattle.hub_notes.specs.declared.arrival.Arrival.TheVariants.{Busy, Memory, Taken}
 pub use Rattle.hub_table.specs.All.{parting_value}
 pub use Rattle.hub_core.specs.All.{at, GivesOctets, LosesLink, Notes, Sends}
 pub use Rattle.run_laws.specs.All.{Agrees, HearsFrames, HearsHead, IsFed, IsRead, ReaderView, reader_view, is_of_orders}
+pub use Rattle.run_told.specs.All.{KeepsOwed, TellsAll, TellsTo, HoldsAs, IsTold, TellsNext}
 pub use Rattle.run_kept.specs.All.{AreThere, backlog_at, event_for, HearsAt, IntakeView, Kept, RestsAt, SameButReader, Shows, AreSound, is_inner}
 pub use Rattle.loop_runner.specs.Events.{IsSound}
 pub use Rattle.loop_runner.specs.Heads.{decision_seen}
 pub use Rattle.loop_runner.specs.Intakes.{ChangesIntake, IsNew, LendsIntake, SameIntakes, intake_at, is_admitted, max_of}
-pub use Rattle.loop_runner.specs.Keeps.{AreFew, AreViews, Beginning, EndsWithTurn, ForNotes, ForReplies, Holds, IsLivedThroughout, IsRight, IsSettled, KeptAll, beginning, intake_view, meaning_of, no_view, view_by, view_of, with_view}
-pub use Rattle.loop_runner.specs.Moments.{Gives, HandsOut, IsKeptThen, Keeps, KeepsNext, KeepsOn, KeepsOne, KeepsView, Moment, Opens, ServesOrders, SettlesNext, TakesIn, moment, with_hub, with_net}
+pub use Rattle.loop_runner.specs.Keeps.{AreFew, AreViews, Beginning, EndsWithTurn, ForNotes, ForReplies, Holds, IsBetweenTurns, IsLivedThroughout, IsRight, IsSettled, IsSettledIfTold, IsToldNow, KeptAll, beginning, intake_view, meaning_of, no_view, view_by, view_of, with_view}
+pub use Rattle.loop_runner.specs.Moments.{Gives, HandsOut, HandsTold, IsKeptThen, Keeps, KeepsNext, KeepsOn, KeepsOne, KeepsView, Moment, Opens, ServesOrders, SettlesNext, TakesIn, TellsOn, TellsOne, moment, with_hub, with_net}
 pub use Rattle.loop_runner.specs.Ready.{IsAsked, IsDrained, IsTaken, Ready}
 pub use Rattle.loop_runner.specs.Steps.{But, Every, Grows, HasFrames, NotesTurns, OfNotes, OffersIfThere, Onward, RisesBeyond, Running, StaysOrLeaves, Steps, StepsWith, Takes, is_kept_at, weight_at, weight_below, weight_of}
 pub use Rattle.loop_runner.specs.Turning.{Between, EndsEvents, MakesRun, MakesTurn, MakesTurns, TakesEvent, WhereKept}

@@ -12,12 +12,14 @@ use Rattle.run_meaning.specs.Server as run
 use Rattle.run_meaning.specs.Server.{served_by, every_topic}
 use Rattle.run_meaning.specs.Lines.{plain}
 use Rattle.run_meaning.specs.Replies.{AreAdmitted, AreReplies, HasReplies}
-use Rattle.run_meaning.specs.Settled.{Settled}
+use Rattle.run_meaning.specs.Settled.{BetweenTurns, IsTurn, Settled}
+use Rattle.run_meaning.specs.Told.{AreTold}
 use Rattle.run_meaning.specs.Life.{LivedThroughout}
 use Rattle.run_meaning.specs.Right.{Right}
 use Rattle.hub_lines.specs.State.{Server}
 use Rattle.hub_notes.specs.Table.{IsTable, table_of}
 use Rattle.run_laws.specs.Readers.{ReaderView, reader_view}
+use Rattle.run_told.specs.Tellings.{IsTold}
 use Rattle.run_kept.specs.Sounds.{AreSound}
 use Rattle.run_kept.specs.Kept.{IntakeView, Kept}
 use Rattle.run_kept.specs.Ends.{backlog_at}
@@ -65,11 +67,12 @@ beginning handler start config table = record { start = start; after = handler.a
 abbrev pub meaning_of : {State : Type 0} → Beginning State → (ℕ → List ℕ) → run.Server State
 meaning_of b replies = served_by b.start b.after b.said every_topic replies
 
--- what holds for one meaning: it is kept, each note is sound, and the hub's table is one
+-- what holds for one meaning: it is kept, each note is sound, the hub's table is one, and what the handler was told is right
 pub record Holds {State : Type 0} (b : Beginning State) (replies : ℕ → List ℕ) (notes : List NoteValue) (s : Server) (now : State) (views : ℕ → IntakeView) (reading : Option ℕ) : Type 0 where
   pub kept : Kept (meaning_of b replies) b.config b.table notes s now views reading
   pub sound : AreSound (meaning_of b replies) b.config notes
   pub whole : IsTable (table_of s.hub)
+  pub told : IsTold (meaning_of b replies) notes s.hub
 
 -- at no time has a connection as many items as can be counted
 abbrev pub AreFew : {State : Type 0} → run.Server State → List NoteValue → Type 0
@@ -101,6 +104,19 @@ pub record IsRight {State : Type 0} (b : Beginning State) (s : Server) (now : St
 -- take.
 abbrev pub IsSettled : {State : Type 0} → Beginning State → Server → Type 0
 IsSettled b s = ForReplies b s (λ replies notes. Settled (meaning_of b replies) notes s.net (record { pending = 0; gathered = []; backlog = backlog_at s.hub }))
+
+-- in the last turn the handler was told of each connection that had something to tell as it began, and is open after it
+abbrev pub IsToldNow : {State : Type 0} → run.Server State → List NoteValue → Type 0
+IsToldNow meaning notes = (before made : List NoteValue) → notes ≡ before ++ made → IsTurn before made → AreTold meaning before made
+
+-- all is settled where that is so
+abbrev pub IsSettledIfTold : {State : Type 0} → Beginning State → Server → Type 0
+IsSettledIfTold b s = ForReplies b s (λ replies notes. IsToldNow (meaning_of b replies) notes
+    → Settled (meaning_of b replies) notes s.net (record { pending = 0; gathered = []; backlog = backlog_at s.hub }))
+
+-- where the watch tells, it told nothing yet, or that a turn ended last
+abbrev pub IsBetweenTurns : Option (List NoteValue) → Type 0
+IsBetweenTurns told = (notes : List NoteValue) → told ≡ Some notes → BetweenTurns notes
 
 -- At the end of each turn so far, what was heard of each connection is what the octets say that were read until then.
 abbrev pub IsLivedThroughout : {State : Type 0} → Beginning State → Server → Type 0

@@ -1,5 +1,6 @@
 -- What is seen of a loop between two calls, and what each step keeps of it.
-use Rattle.std.specs.Prelude.{◌≡◌, ◌<◌, ◌-◌, ◌^◌, ℕ, List, ◌∷◌, [], Option, Some, None, true, length}
+use Rattle.std.specs.Prelude.{◌≡◌, ◌<◌, ◌≤◌, ◌-◌, ◌^◌, ℕ, List, ◌∷◌, [], Option, Some, None, Bool, true, length, IfNone, IfSome}
+use Rattle.ws_kinds.specs.declared.conn.Conn.{Conn}
 use Rattle.ws_kinds.specs.ConfigValue.{ConfigValue}
 use Rattle.ws_kinds.specs.EventValue.{EventValue}
 use Rattle.ws_kinds.specs.OrderValue.{OrderValue}
@@ -20,13 +21,15 @@ use Rattle.hub_lines.specs.State.{HubState, PartingValue, Server, server}
 use Rattle.hub_lines.specs.Calls.{nothing, only}
 use Rattle.hub_notes.specs.Calls.{Proceeds, Appends}
 use Rattle.hub_notes.specs.Serving.{ServesAll}
-use Rattle.hub_notes.specs.Table.{TakesDue, table_of}
+use Rattle.hub_notes.specs.NextTold.{NoneToTell, TakesTold}
+use Rattle.hub_notes.specs.Table.{IsTable, TakesDue, table_of}
 use Rattle.hub_core.specs.At.{at}
+use Rattle.run_told.specs.Pass.{TellsTo}
 use Rattle.run_kept.specs.Kept.{IntakeView}
 use Rattle.run_kept.specs.Ends.{AreThere}
 use Rattle.loop_runner.specs.declared.intakes.Intakes.{Intakes}
 use Rattle.loop_runner.specs.Intakes.{is_admitted}
-use Rattle.loop_runner.specs.Keeps.{Beginning, beginning, KeptAll, IsSettled, AreViews, with_view}
+use Rattle.loop_runner.specs.Keeps.{Beginning, beginning, KeptAll, IsSettledIfTold, AreViews, with_view}
 use Rattle.loop_runner.specs.Steps.{Every, Onward, Steps, Running}
 
 -- a server, with the handler's state
@@ -82,12 +85,12 @@ Keeps {H} {handler} table before after old new = (start : handler.State) (config
 abbrev pub KeepsNext : {H : Type 0} {handler : HandlerMeaning H} → NetEvent → RouteTable → Intakes → Intakes → Moment handler → Moment handler → Type 0
 KeepsNext answer table before after old new = (net : NetState) → Nexts answer net old.server.net → length net.passed < 2 ^ 64 - 1 → Keeps table before after (with_net net old) new
 
--- And then all is settled, where each live link was that of an entry which is not gone.
+-- And then all is settled, where each live link was that of an entry which is not gone, and the handler was told what it was owed.
 abbrev pub SettlesNext : {H : Type 0} {handler : HandlerMeaning H} → NetEvent → RouteTable → Intakes → Moment handler → Moment handler → Type 0
 SettlesNext {H} {handler} answer table before old new = (net : NetState) → Nexts answer net old.server.net → length net.passed < 2 ^ 64 - 1
     → (start : handler.State) (config : ConfigValue) (views : ℕ → IntakeView) → AreViews before views
     → KeptAll (beginning handler start config table) (with_net net old).server old.now views None → AreThere (with_net net old).server
-    → IsSettled (beginning handler start config table) new.server
+    → IsSettledIfTold (beginning handler start config table) new.server
 
 -- What one connection's reader has to tell becomes this: what was kept with the old view of it is kept with the new one. `from`
 -- and `to` are the connection where more of it may be told, before and after.
@@ -111,9 +114,30 @@ pub record TakesIn {H : Type 0} {handler : HandlerMeaning H} (answer : NetEvent)
   pub there : (net : NetState) → Nexts answer net old.server.net → AreThere (with_net net old).server → AreThere new.server
   pub kept : (table : RouteTable) → KeepsNext answer table before after old new
 
+-- What there is to tell of a connection that has an intake was handed out, by this hub.
+pub record HandsTold (after conn dropped : ℕ) (drained : Bool) (intakes : Intakes) (hub : HubState) (s : Server) : Type 0 where
+  pub takes : TakesTold after conn dropped drained hub s.hub
+  pub appends : Appends nothing (server hub s.net s.told) s
+  pub table : IsTable (table_of hub)
+  pub tables : IsTable (table_of s.hub)
+  pub named : s.hub.named ≡ hub.named
+  pub admitted : is_admitted intakes conn ≡ true
+
+-- The handler was told of a connection. Of those above a number who had something to tell, those above the connection are left.
+pub record TellsOne {H : Type 0} {handler : HandlerMeaning H} (after conn : ℕ) (intakes : Intakes) (old new : Moment handler) : Type 0 where
+  pub steps : Steps Every old.server new.server
+  pub kept : (table : RouteTable) → Keeps table intakes intakes old new
+  pub told : (start : Server) → TellsTo after start old.server → TellsTo conn start new.server
+
+-- The handler was told of the next connection above a number, if there is one, and else nothing changes.
+pub record TellsOn {H : Type 0} {handler : HandlerMeaning H} (after : ℕ) (next : Option Conn) (intakes : Intakes) (old new : Moment handler) : Type 0 where
+  pub some : IfSome next (λ conn. (after < conn.0) × (conn.0 ≤ new.server.hub.named) × TellsOne after conn.0 intakes old new)
+  pub none : IfNone next ((new ≡ old) × NoneToTell after old.server.hub)
+
 -- The Closed event of a connection that has an intake was handed out, by this hub.
 pub record HandsOut (parting : PartingValue) (intakes : Intakes) (hub : HubState) (s : Server) : Type 0 where
   pub taken : TakesDue (Some parting) (table_of hub) (table_of s.hub)
   pub pairs : s.hub.pairs ≡ hub.pairs
+  pub tellings : s.hub.tellings ≡ hub.tellings
   pub appends : Appends nothing (server hub s.net s.told) s
   pub admitted : is_admitted intakes parting.conn ≡ true

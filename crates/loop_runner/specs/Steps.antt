@@ -17,6 +17,7 @@ use Rattle.hub_notes.specs.Progress.{Progress, progress_at}
 use Rattle.hub_notes.specs.Fronts.{RingsWait}
 use Rattle.hub_notes.specs.Table.{IsTable, is_kept, table_of}
 use Rattle.hub_notes.specs.Turns.{Offers}
+use Rattle.run_told.specs.Pass.{KeepsOwed}
 use Rattle.run_kept.specs.Ends.{AreThere}
 use Rattle.loop_runner.specs.declared.intakes.Intake.{Intake}
 use Rattle.loop_runner.specs.declared.intakes.Intakes.{Intakes}
@@ -60,6 +61,8 @@ pub record Onward (count owed : ℕ) (old new : Server) : Type 0 where
   pub passed : old.net.tells ≡ true → new.net.passed ≡ old.net.passed
   pub faults : old.net.faults ≤ new.net.faults
   pub links : RisesBeyond 0 owed old new
+  -- what the handler was not told yet stands to be told
+  pub telling : KeepsOwed count old new
 
 -- how many Closed events a connection can still have: one while it is open, and one that is due
 abbrev pub weight_of : Progress → ℕ

@@ -7,12 +7,13 @@ use Rattle.link_trait.specs.declared.net.NetEvent.{NetEvent}
 use Rattle.route_table.specs.Table.{RouteTable}
 use Rattle.hub_lines.specs.State.{Server}
 use Rattle.hub_notes.specs.Progress.{due_at}
+use Rattle.run_told.specs.Pass.{TellsAll}
 use Rattle.run_kept.specs.Kept.{IntakeView}
 use Rattle.run_kept.specs.Ends.{AreThere}
 use Rattle.loop_runner.specs.declared.intakes.Intakes.{Intakes}
 use Rattle.loop_runner.specs.declared.turn.Turned.{Turned}
 use Rattle.loop_runner.specs.declared.turns.Ran.{Ran}
-use Rattle.loop_runner.specs.Keeps.{Beginning, beginning, KeptAll, AreViews, IsRight, IsSettled, IsLivedThroughout, EndsWithTurn}
+use Rattle.loop_runner.specs.Keeps.{Beginning, beginning, KeptAll, AreViews, IsRight, IsBetweenTurns, IsSettled, IsSettledIfTold, IsLivedThroughout, EndsWithTurn}
 use Rattle.loop_runner.specs.Ready.{Ready}
 use Rattle.loop_runner.specs.Steps.{Every, Grows, NotesTurns, RisesBeyond, StepsWith, Running}
 use Rattle.loop_runner.specs.Turns.{PassesBetween, PassesTurn, FailsAs, Runs, RunFailsAs, NotesRun}
@@ -46,8 +47,10 @@ pub record TakesEvent {H : Type 0} {handler : HandlerMeaning H} (table : RouteTa
   pub grows : Grows old.server new.server
   pub links : RisesBeyond 0 0 old.server new.server
   pub there : AreThere old.server → AreThere new.server
+  -- who was told of all that was to be told as the turn began, was so still
+  pub told : (start : Server) → TellsAll start old.server → TellsAll start new.server
   pub kept : WhereKept table before old new (IsKeptThen after new)
-  pub settled : IfSome end (λ turned. WhereKept table before old new (λ b. AreThere old.server → IsSettled b new.server))
+  pub settled : IfSome end (λ turned. WhereKept table before old new (λ b. AreThere old.server → IsSettledIfTold b new.server))
 
 -- the end of a turn, after an answer of the net that ended it
 pub record EndsEvents {H : Type 0} {handler : HandlerMeaning H} (before after : Intakes) (old new : Moment handler) : Type 0 where
@@ -68,7 +71,7 @@ pub record MakesTurn {H : Type 0} {handler : HandlerMeaning H} (table : RouteTab
   pub kept : WhereKept table before old new (IsKeptThen after new)
   pub right : WhereKept table before old new (λ b. IsRight b new.server new.now)
   pub there : AreThere old.server → AreThere new.server
-  pub settled : WhereKept table before old new (λ b. AreThere old.server → IsSettled b new.server)
+  pub settled : WhereKept table before old new (λ b. AreThere old.server → IsBetweenTurns old.server.told → IsSettled b new.server)
   pub last : EndsWithTurn new.server.told
   pub throughout : WhereKept table before old new (λ b. IsLivedThroughout b old.server → IsLivedThroughout b new.server)
 
@@ -80,7 +83,8 @@ pub record MakesTurns {H : Type 0} {handler : HandlerMeaning H} (table : RouteTa
   pub turns : NotesTurns made old.server.told new.server.told
   pub kept : WhereKept table before old new (IsKeptThen after new)
   pub there : AreThere old.server → AreThere new.server
-  pub settled : 1 ≤ made → WhereKept table before old new (λ b. AreThere old.server → IsSettled b new.server)
+  pub between : IsBetweenTurns old.server.told → IsBetweenTurns new.server.told
+  pub settled : 1 ≤ made → WhereKept table before old new (λ b. AreThere old.server → IsBetweenTurns old.server.told → IsSettled b new.server)
   pub last : 1 ≤ made → EndsWithTurn new.server.told
   pub throughout : WhereKept table before old new (λ b. IsLivedThroughout b old.server → IsLivedThroughout b new.server)
 
@@ -94,6 +98,6 @@ pub record MakesRun {H : Type 0} {handler : HandlerMeaning H} (table : RouteTabl
   pub kept : WhereKept table before old new (IsKeptThen after new)
   pub right : WhereKept table before old new (λ b. IsRight b new.server new.now)
   pub there : AreThere old.server → AreThere new.server
-  pub settled : 1 ≤ turns → WhereKept table before old new (λ b. AreThere old.server → IsSettled b new.server)
+  pub settled : 1 ≤ turns → WhereKept table before old new (λ b. AreThere old.server → IsBetweenTurns old.server.told → IsSettled b new.server)
   pub last : 1 ≤ turns → EndsWithTurn new.server.told
   pub throughout : WhereKept table before old new (λ b. IsLivedThroughout b old.server → IsLivedThroughout b new.server)

@@ -10,6 +10,7 @@ mod giving;
 mod intakes;
 mod reading;
 mod starting;
+mod telling;
 mod turn;
 mod turns;
 

@@ -14,7 +14,7 @@ use ws_kinds::Handler;
 /// condition on it holds for every handler.
 pub fn kept_at_first<H: Handler>()
     ensures { (start : H.State) (config : ConfigValue) (table : RouteTable) (s : Server) (now : H.State) (views : ℕ → IntakeView) →
-        s.hub.entries ≡ [] → s.hub.pairs ≡ [] → s.hub.partings ≡ [] → s.hub.config ≡ config → IsTable (table_of s.hub) →
+        s.hub.entries ≡ [] → s.hub.pairs ≡ [] → s.hub.partings ≡ [] → s.hub.tellings ≡ [] → s.hub.config ≡ config → IsTable (table_of s.hub) →
         s.told ≡ Some [] → s.net.passed ≡ [] → now ≡ start → KeptAll (beginning H.Handler start config table) s now views None }
 {}
 

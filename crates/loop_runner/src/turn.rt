@@ -5,6 +5,7 @@ ghost use Rattle.hub_lines.specs.State.{is_present};
 ghost use Rattle.hub_lines.specs.Calls.{Ties};
 ghost use Rattle.hub_notes.specs.Progress.{due_at};
 ghost use Rattle.hub_core.specs.At.{at};
+ghost use Rattle.run_told.specs.Pass.{TellsAll};
 ghost use Rattle.loop_runner.specs.Ready.{Ready};
 ghost use Rattle.loop_runner.specs.Steps.{Every, OffersIfThere, Running};
 ghost use Rattle.loop_runner.specs.Moments.{moment, KeepsOn};
@@ -14,6 +15,7 @@ use crate::arriving::arrive;
 use crate::closing::{close_all, tidy};
 use crate::intakes::Intakes;
 use crate::reading::readable;
+use crate::telling::tell_all;
 use hub_core::Hub;
 use link_trait::{Net, NetEvent, Outside};
 use route_table::Routes;
@@ -33,8 +35,9 @@ pub enum Turned {
 /// Makes one turn: takes what the net tells, until it tells that all was told, that nothing will come any more, or that it had
 /// a fault.
 ///
-/// First all Closed events that are due are given to the handler, and again after each thing that the net told. What the
-/// handler orders in answer to an event is done before anything else.
+/// First all Closed events that are due are given to the handler, and again after each thing that the net told. After the first ones
+/// the handler is told of each connection of which items were dropped, or of which what was held is taken, in ascending order. What
+/// the handler orders in answer to an event is done before anything else.
 ///
 /// The hub and the intakes have to be ready, as they are when both are new and as this leaves them: they have the same
 /// connections and the same limit of a message's octets, the net named each of them, no frame is pending, and what came of each
@@ -67,7 +70,8 @@ pub fn run_turn<N: Net, W: Watch, H: Handler>(
     }
 }
 
-/// Gives the Closed events that are due since the last turn. Where nobody is an entry, none is.
+/// Gives the Closed events that are due since the last turn, then the Told events, and the Closed events that are due then. Where nobody
+/// is an entry, there are none.
 fn begin<N: Net, W: Watch, H: Handler>(
     hub: &mut Hub,
     intakes: &mut Intakes,
@@ -77,10 +81,13 @@ fn begin<N: Net, W: Watch, H: Handler>(
     requires { Ready intakes.old (at N.Net W.Watch hub.old out.old) }
     ensures none { (conn : ℕ) → due_at hub.new conn ≡ None }
     ensures keeps { let seen = moment N.Net W.Watch H.Handler in KeepsOn intakes.old intakes.new (seen hub.old out.old handler.old) (seen hub.new out.new handler.new) }
+    ensures told { TellsAll (at N.Net W.Watch hub.old out.old) (at N.Net W.Watch hub.new out.new) }
 {
     if hub.count() == 0 {
         return;
     }
+    close_all(hub, intakes, out, handler);
+    tell_all(hub, intakes, out, handler);
     close_all(hub, intakes, out, handler);
 }
 

@@ -1,5 +1,5 @@
 -- An event is noted, the handler is given it, and its orders are served.
-use Rattle.run_kept.proofs.Below.{◌≡◌, ◌≢◌, ◌+◌, ⊎_elim, is_some, ℕ, suc, List, [], ◌∷◌, ◌++◌, Option, Some, None, Bool, true, false, not, cond, ◌&&◌, ◌||◌, refl, sym, ap, ◌∙◌, subst, append-nil, append_assoc, arith, cases_eq, list_all, list_any, or-true, Kind, Phase, Head, Open, ConfigValue, NoteValue, EventValue, WhatValue, OrderValue, AreNoted, reply, NetState, RouteTable, is_of, is_acceptance, gather, accepted_by, Line, World, moved, is_frame, route_after, param_after, after_own, noted, noted_all, orders_of, world, phase, Ordered, event_at, Heard, opened, read, heard, last_frame, is_frame_heard, frames_in, Follows, is_outgoing, Step, notes_of, world_frames, noted_line, own_line, all_follow, all_then, HubState, PartingValue, Server, Entry, has_entry, is_present, nothing, only, progress_at, Advances, Proceeds, Appends, Does, ServesAll, IsTable, TakesDue, table_of, by_cases, clash, itself, is_other, unaccepted, outgoing_unaccepted, Agrees, AreUnlike, is_of_orders, IsRead, HearsFrames, but_none, none_but, gathers_none, told_is, agrees_aside, agrees_closed, frames_read, agrees_note, items_opened, agrees_hub_phase, due_taken, heard_then_opened, heard_then_event, orders_follow, proceeds_follows, outgoing_of_orders, orders_unaccepting, served_notes, agrees_orders, ordered_orders, orders_keep, aside_follows, IntakeView, HearsAt, SameButReader, Kept, event_for, OrdersServed}
+use Rattle.run_kept.proofs.Below.{◌≡◌, ◌≢◌, ◌+◌, ⊎_elim, is_some, ℕ, suc, List, [], ◌∷◌, ◌++◌, Option, Some, None, Bool, true, false, not, cond, ◌&&◌, ◌||◌, refl, sym, ap, ◌∙◌, subst, append-nil, append_assoc, arith, cases_eq, list_all, list_any, or-true, Kind, Phase, Head, Open, ConfigValue, NoteValue, EventValue, WhatValue, OrderValue, AreNoted, reply, NetState, RouteTable, is_of, is_acceptance, gather, accepted_by, Line, World, moved, is_frame, route_after, param_after, after_own, noted, noted_all, orders_of, world, phase, Ordered, event_at, Heard, opened, read, heard, last_frame, is_frame_heard, frames_in, Follows, is_outgoing, Step, notes_of, world_frames, noted_line, own_line, all_follow, all_then, HubState, PartingValue, Server, Entry, has_entry, is_present, nothing, only, progress_at, Advances, Proceeds, Appends, Makes, Does, ServesAll, IsTable, TakesDue, table_of, by_cases, clash, itself, is_other, unaccepted, outgoing_unaccepted, Agrees, AreUnlike, is_of_orders, IsRead, HearsFrames, but_none, none_but, gathers_none, told_is, agrees_aside, agrees_closed, frames_read, agrees_note, agrees_quiet, items_opened, agrees_hub_phase, due_taken, heard_then_opened, heard_then_event, orders_follow, proceeds_follows, outgoing_of_orders, orders_unaccepting, served_notes, agrees_orders, ordered_orders, orders_keep, aside_follows, IntakeView, HearsAt, SameButReader, Kept, event_for, OrdersServed}
 use Rattle.ws_kinds.specs.NoteValue as note
 use Rattle.ws_kinds.specs.EventValue as event
 use Rattle.wire_meaning.specs.Event as wire
@@ -240,6 +240,31 @@ module _ {S : Type 0} (r : run.Server S) (f : ConfigValue) (table : RouteTable) 
           (subst IsAway (sym here) (record { phase = ap (λ (z : ℕ). (progress_at a.hub z).phase) (sym q) ∙ away.phase; due = refl })))
           (λ (ne : c ≢ parting.conn). subst IsAway (sym (others c ne)) away)
           (cases_eq c parting.conn)
+
+  -- ---- a Told event is given
+
+  pub told_given : (conn dropped : ℕ) (drained : Bool) (e : EventValue) (a b d : Server) (now next : S) (intakes : ℕ → IntakeView) → Kept r f table ns a now intakes None → phase r ns conn ≡ Some Open
+      → Makes (note.told conn dropped drained ∷ []) a b → Appends nothing a b
+      → e ≡ event_for conn (intakes conn) (event.told dropped drained) → next ≡ r.after now e → ServesAll b.hub.config r.admits conn 0 (r.said next e) b d → d.told ≡ Some after
+      → IsTable (table_of a.hub) → IsTable (table_of d.hub)
+      → OrdersServed r f ns (note.told conn dropped drained) [] after b d next × Kept r f table after d next intakes None
+  told_given conn dropped drained e a b d now next intakes k is_open makes app event_is given_now served told was is =
+      let n = note.told conn dropped drained in
+      let w : World S = world r ns in
+      let earlier = told_before after b d served told in
+      let x : Agrees (noted r n w) (ns ++ n ∷ []) b = agrees_quiet r w ns earlier.0 (n ∷ []) a b k.agrees makes.advances app earlier.1 refl in
+      let given_e = event_for conn (intakes conn) (event.told dropped drained) in
+      let routed = k.routed conn (phase_has_entry a.hub conn Open (agrees_hub_phase w ns a k.agrees conn Open refl is_open)) in
+      let line = own_line r conn n (w.line conn) (itself conn) in
+      let at : event_at n (noted r n w) ≡ Some given_e = event_alike conn (event.told dropped drained) (intakes conn).route ((noted r n w).line conn).route (intakes conn).param ((noted r n w).line conn).param
+      (ap (λ (z : Line). z.route) line ∙ sym routed.0) (ap (λ (z : Line). z.param) line ∙ sym routed.1) in
+      let steps : Proceeds (n ∷ []) [] a b = record { sending = []; outgoing = refl; advances = makes.advances; fails = makes.fails } in
+      let follows : Follows (ns ++ n ∷ []) b.net = none_but (ns ++ n ∷ []) b.net (proceeds_follows ns (n ∷ []) [] [] [] [] a b k.agrees.tells refl refl refl steps (but_none ns a.net k.follows)) in
+      kept_given r f ns n given_e [] after b d now next at k.ordered k.state (app.lines.config ∙ k.configured) refl x (given_now ∙ ap (r.after now) event_is)
+      (subst (λ (z : EventValue). ServesAll b.hub.config r.admits conn 0 (r.said next z) b d) event_is served) told
+      table a.hub.entries intakes None refl k.unlike follows
+      (λ c. beside_note a b now intakes intakes None n k c (λ z. absurd (none_reads c z)) refl ((makes.advances.net.told k.agrees.tells).given c) refl)
+      (λ does none. entries_before a b d _ was is (λ c away. away_after c (n ∷ []) a b makes.advances (unaccepted (n ∷ []) c refl) away) does none)
 
   -- ---- an Opened event is given
 

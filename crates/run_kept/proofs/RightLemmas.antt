@@ -1,5 +1,6 @@
 -- What is kept after a turn is what the relation of a run asks for.
-use Rattle.run_kept.proofs.Below.{◌≡◌, ◌≢◌, ◌<◌, ◌^◌, ◌-◌, inl, inr, ◌⊎◌, ℕ, List, [], ◌∷◌, ◌++◌, Option, Some, None, Bool, true, false, cond, not, ◌&&◌, length, refl, sym, ap, ◌∙◌, subst, Phase, Head, Open, Leaving, Ending, Gone, ConfigValue, NoteValue, RouteTable, closes, is_accepted, is_gone_phase, phase, plain, world, heard, last_frame, Lived, Carries, Carried, all_spelled, LeftAtEnd, is_reading, is_ending, Sound, Right, Server, has_entry, entry_at, is_present, phase_at, ring_at, held_at, held_octets, Settled, Ties, settled_held, RingsWait, unless_gone, due_at, by_cases, clash, away_by_phase, there_by_phase, away_by_gone, rests_of, agrees_due, agrees_told, agrees_untold, agrees_hub_phase, ReaderView, HearsAll, agrees_carried, agrees_phase, accepted_known, unaccepted_phase, head_waits, frames_end, lived_of_all, lived_of_front, AreThere, backlog_at, AreRead, IntakeView, HearsAt, RestsAt, Kept}
+use Rattle.run_kept.proofs.Below.{◌≡◌, ◌≢◌, ◌<◌, ◌^◌, ◌-◌, inl, inr, ◌⊎◌, ℕ, List, [], ◌∷◌, ◌++◌, Option, Some, None, Bool, true, false, cond, not, ◌&&◌, length, refl, sym, ap, ◌∙◌, subst, Phase, Head, Open, Leaving, Ending, Gone, ConfigValue, NoteValue, RouteTable, closes, is_accepted, is_gone_phase, phase, plain, world, heard, last_frame, Lived, Carries, Carried, all_spelled, LeftAtEnd, is_reading, is_ending, Sound, Right, Server, has_entry, entry_at, is_present, phase_at, ring_at, held_at, held_octets, Settled, Ties, settled_held, RingsWait, unless_gone, due_at, by_cases, clash, away_by_phase, there_by_phase, away_by_gone, rests_of, agrees_due, agrees_told, agrees_untold, agrees_hub_phase, ReaderView, HearsAll, agrees_carried, agrees_phase, accepted_known, unaccepted_phase, head_waits, frames_end, lived_of_all, lived_of_front, AreThere, backlog_at, AreRead, IntakeView, HearsAt, RestsAt, Kept, Fair, ToldRight, AreTold, accepted_more, agrees_fair}
+use Rattle.ws_kinds.specs.NoteValue as note
 use Rattle.run_meaning.specs.Server as run
 use Rattle.run_meaning.specs.Kept as meaning
 use Rattle.run_meaning.specs.Settled as meant
@@ -79,14 +80,24 @@ module _ {S : Type 0} (r : run.Server S) (f : ConfigValue) (t : RouteTable) (ns 
       (λ away. carries_any (is_gone_phase (phase r ns c)) (s.net.taken c) (ring_at s.hub c) (held c) (all_spelled (meaning.kept r ns c))
       (gone_if_away (is_accepted c ns) (is_gone_phase (phase r ns c)) (sym (there_is c) ∙ away) there) carried)
 
+  -- each drop was fair, since only who was accepted is named
+  fair_there : ((c : ℕ) → length (plain r ns c) < 2 ^ 64 - 1) → ((before rest : List NoteValue) (n : NoteValue) → ns ≡ before ++ n ∷ rest → Sound r f before n) → Fair r f ns
+  fair_there few sound before rest c i h e =
+      let n = note.dropped c i h in
+      let was : is_accepted c before ≡ true = by_cases (is_accepted c before) (λ y. y) (λ no. clash false refl ((sound before rest n e).named c refl no)) in
+      let there : is_accepted c ns ≡ true = subst (λ (z : List NoteValue). is_accepted c z ≡ true) (sym e) (accepted_more c before (n ∷ rest) was) in
+      agrees_fair r f ns s k.agrees k.configured before rest c i h e (accepted_known r c ns there) (few c)
+
   right_by : (held : ℕ → List ℕ) → IsHeld held → Settled s.hub → ((c : ℕ) → length (plain r ns c) < 2 ^ 64 - 1)
-      → ((before rest : List NoteValue) (n : NoteValue) → ns ≡ before ++ n ∷ rest → Sound r f before n) → Right r f t ns s.net now held
-  right_by held is_held settled few sound = record {
+      → ((before rest : List NoteValue) (n : NoteValue) → ns ≡ before ++ n ∷ rest → Sound r f before n) → ToldRight r ns → Right r f t ns s.net now held
+  right_by held is_held settled few sound told = record {
     ordered = k.ordered;
     follows = k.follows;
     lived = kept_lived;
     carried = λ c there. carried_by held is_held settled c (few c) there;
     state = k.state;
+    fair = fair_there few sound;
+    told = told;
     sound = sound;
   }
 
@@ -94,8 +105,8 @@ module _ {S : Type 0} (r : run.Server S) (f : ConfigValue) (t : RouteTable) (ns 
   backlog_is c present = ap (λ (z : Bool). cond z (ring_at s.hub c) []) present
 
   pub kept_right_there : Settled s.hub → ((c : ℕ) → length (plain r ns c) < 2 ^ 64 - 1) → ((before rest : List NoteValue) (n : NoteValue) → ns ≡ before ++ n ∷ rest → Sound r f before n)
-      → Right r f t ns s.net now (backlog_at s.hub)
-  kept_right_there settled few sound = right_by (backlog_at s.hub) backlog_is settled few sound
+      → ToldRight r ns → Right r f t ns s.net now (backlog_at s.hub)
+  kept_right_there settled few sound told = right_by (backlog_at s.hub) backlog_is settled few sound told
 
   -- ---- what holds after a turn
 
@@ -111,10 +122,14 @@ module _ {S : Type 0} (r : run.Server S) (f : ConfigValue) (t : RouteTable) (ns 
   ending_there c e = by_cases (is_present s.hub c) (λ t. t)
       (λ away. absurd (ending_away (entry_at s.hub c).phase (has_entry s.hub.entries c) away e))
 
+  -- in the last turn the handler was told of each that had something to tell
+  abbrev IsToldNow : Type 0
+  IsToldNow = (before made : List NoteValue) → ns ≡ before ++ made → meant.IsTurn before made → AreTold r before made
+
   settled_by : (held : ℕ → List ℕ) → IsHeld held → ((c : ℕ) → held c ≢ [] → is_present s.hub c ≡ true) → Settled s.hub → s.net.rested ≡ true → RingsWait s → AreRead None s
       → ((c : ℕ) → phase_at s.hub c ≡ Some Ending → held_octets (held_at s.hub c) ≢ []) → ((c : ℕ) (cause : ℕ × List ℕ) → due_at s.hub c ≡ Some cause → LeftAtEnd r c ns)
-      → Ties s → AreThere s → meant.Settled r ns s.net (record { pending = 0; gathered = []; backlog = held })
-  settled_by held is_held present settled rested waits asked ending due ties there = record {
+      → Ties s → AreThere s → IsToldNow → meant.Settled r ns s.net (record { pending = 0; gathered = []; backlog = held })
+  settled_by held is_held present settled rested waits asked ending due ties there told = record {
     rested = rested;
     drained = refl;
     flushed = refl;
@@ -126,6 +141,7 @@ module _ {S : Type 0} (r : run.Server S) (f : ConfigValue) (t : RouteTable) (ns 
     closed = λ c code reason left_it. told_or_left c (code, reason) (due_at s.hub c) refl (due c) left_it;
     only_those = λ c left_it. agrees_untold (world r ns) ns s k.agrees c left_it;
     live = λ c. both_ways (s.net.live c) (is_present s.hub c) (there c) (ties c) ∙ there_is c;
+    told = told;
   }
 
   backlog_there : (c : ℕ) → backlog_at s.hub c ≢ [] → is_present s.hub c ≡ true
@@ -134,5 +150,5 @@ module _ {S : Type 0} (r : run.Server S) (f : ConfigValue) (t : RouteTable) (ns 
   -- with what is held for those who are there
   pub kept_settled_there : Settled s.hub → s.net.rested ≡ true → RingsWait s → AreRead None s
       → ((c : ℕ) → phase_at s.hub c ≡ Some Ending → held_octets (held_at s.hub c) ≢ []) → ((c : ℕ) (cause : ℕ × List ℕ) → due_at s.hub c ≡ Some cause → LeftAtEnd r c ns)
-      → Ties s → AreThere s → meant.Settled r ns s.net (record { pending = 0; gathered = []; backlog = backlog_at s.hub })
-  kept_settled_there settled rested waits asked ending due ties there = settled_by (backlog_at s.hub) backlog_is backlog_there settled rested waits asked ending due ties there
+      → Ties s → AreThere s → IsToldNow → meant.Settled r ns s.net (record { pending = 0; gathered = []; backlog = backlog_at s.hub })
+  kept_settled_there settled rested waits asked ending due ties there told = settled_by (backlog_at s.hub) backlog_is backlog_there settled rested waits asked ending due ties there told

@@ -1,5 +1,5 @@
 -- What holds after a turn, by what held before it.
-use Rattle.run_kept.proofs.Below.{◌≡◌, ◌<◌, ◌^◌, ◌-◌, ℕ, List, [], ◌∷◌, ◌++◌, Some, None, true, false, length, refl, sym, ◌∙◌, subst, list_any, ConfigValue, NoteValue, NetState, Nexts, SameLinks, Tells, is_rest, NetEvent, RouteTable, LeftAtEnd, Server, server, Settled, Ties, nothing, is_acceptance, RingsWait, due_at, Appends, clash, outgoing_unaccepted, unaccepted_then, IsTable, table_of, EndsTurn, finishes, IntakeView, Kept, AreThere, backlog_at, AreRead}
+use Rattle.run_kept.proofs.Below.{◌≡◌, ◌<◌, ◌^◌, ◌-◌, ℕ, List, [], ◌∷◌, ◌++◌, Some, None, true, false, length, refl, sym, ◌∙◌, subst, list_any, ConfigValue, NoteValue, NetState, Nexts, SameLinks, Tells, is_rest, NetEvent, RouteTable, LeftAtEnd, Server, server, Settled, Ties, nothing, is_acceptance, RingsWait, due_at, Appends, clash, outgoing_unaccepted, unaccepted_then, IsTable, table_of, EndsTurn, finishes, IntakeView, Kept, AreThere, backlog_at, AreRead, AreTold}
 use Rattle.ws_kinds.specs.NoteValue as note
 use Rattle.link_trait.specs.declared.net.NetEvent.TheVariants as event
 use Rattle.run_meaning.specs.Server as run
@@ -45,7 +45,8 @@ module _ (answer : NetEvent) (a b : Server) (net : NetState) (rest : is_rest ans
 
   module _ {S : Type 0} (r : run.Server S) (f : ConfigValue) (t : RouteTable) (ns after : List NoteValue) (now : S) (is : ℕ → IntakeView) (k : Kept r f t ns a now is None) (few : length a.net.passed < 2 ^ 64 - 1)
       (app : Appends nothing (server a.hub net a.told) b) (told : b.told ≡ Some after) (was : IsTable (table_of a.hub)) (table : IsTable (table_of b.hub)) (settled : Settled b.hub) (ties : Ties b) (waits : RingsWait a)
-      (read : AreRead None a) (there : AreThere a) (none : (c : ℕ) → due_at a.hub c ≡ None) where
+      (read : AreRead None a) (there : AreThere a) (none : (c : ℕ) → due_at a.hub c ≡ None)
+      (now_told : (before made : List NoteValue) → after ≡ before ++ made → meant.IsTurn before made → AreTold r before made) where
     kept : (after ≡ ns ++ (ends.proceeds.sending ++ (finishes ends.finished ++ note.turn ∷ []))) × Kept r f t after b now is None
     kept = kept_turned r f t ns a now is k answer net b after ends rest few next app told was table
 
@@ -53,4 +54,4 @@ module _ (answer : NetEvent) (a b : Server) (net : NetState) (rest : is_rest ans
     left c cause due = subst (λ (z : List NoteValue). LeftAtEnd r c z) (sym kept.0) (left_at_end r ns a b net ends k.agrees none c cause due)
 
     pub turn_settled_there : meant.Settled r after b.net (record { pending = 0; gathered = []; backlog = backlog_at b.hub })
-    turn_settled_there = kept_settled_there r f t after b now is kept.1 settled (turn_rests k.agrees.tells) (turn_waits app waits) (turn_read read) ends.ending left ties (turn_there there)
+    turn_settled_there = kept_settled_there r f t after b now is kept.1 settled (turn_rests k.agrees.tells) (turn_waits app waits) (turn_read read) ends.ending left ties (turn_there there) now_told

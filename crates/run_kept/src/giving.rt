@@ -1,7 +1,7 @@
 //! What a server keeps while an event is given to the handler and its orders are served. Each function says laws, and does
 //! nothing.
 
-ghost use Rattle.std.specs.Prelude.{◌≡◌, ◌≢◌, ℕ, List, [], ◌∷◌, ◌++◌, Some, None};
+ghost use Rattle.std.specs.Prelude.{◌≡◌, ◌≢◌, ℕ, List, [], ◌∷◌, ◌++◌, Bool, Some, None};
 ghost use Rattle.ws_kinds.specs.declared.kind.Kind.{Kind};
 ghost use Rattle.ws_kinds.specs.declared.note.Phase.TheVariants.{Head, Open};
 ghost use Rattle.ws_kinds.specs.ConfigValue.{ConfigValue};
@@ -18,6 +18,7 @@ ghost use Rattle.run_meaning.specs.Lines.{phase};
 ghost use Rattle.run_meaning.specs.Life.{heard, opened};
 ghost use Rattle.hub_lines.specs.State.{Server, PartingValue};
 ghost use Rattle.hub_lines.specs.Calls.{nothing, only};
+ghost use Rattle.hub_notes.specs.Answers.{Makes};
 ghost use Rattle.hub_notes.specs.Calls.{Proceeds, Appends};
 ghost use Rattle.hub_notes.specs.Serving.{ServesAll};
 ghost use Rattle.hub_notes.specs.Table.{IsTable, TakesDue, table_of};
@@ -53,6 +54,19 @@ pub fn closed_told<H: Handler>()
         ServesAll noted.hub.config meaning.admits parting.conn 0 (meaning.said next given) noted new → new.told ≡ Some after →
         IsTable (table_of old.hub) → IsTable (table_of new.hub) →
         OrdersServed meaning config notes (note.closed parting.conn parting.code parting.reason) [] after noted new next × Kept meaning config table after new next intakes None }
+{}
+
+/// It was noted what there is to tell of an open connection. The handler was given it, and its orders were served. No connection is being
+/// read.
+pub fn news_told<H: Handler>()
+    ensures { (meaning : Meaning H.State) (config : ConfigValue) (table : RouteTable) (notes after : List NoteValue) (conn dropped : ℕ) (drained : Bool) (given : EventValue)
+        (old noted new : Server) (now next : H.State) (intakes : ℕ → IntakeView) →
+        Kept meaning config table notes old now intakes None → phase meaning notes conn ≡ Some Open →
+        Makes (note.told conn dropped drained ∷ []) old noted → Appends nothing old noted →
+        given ≡ event_for conn (intakes conn) (event.told dropped drained) → next ≡ meaning.after now given →
+        ServesAll noted.hub.config meaning.admits conn 0 (meaning.said next given) noted new → new.told ≡ Some after →
+        IsTable (table_of old.hub) → IsTable (table_of new.hub) →
+        OrdersServed meaning config notes (note.told conn dropped drained) [] after noted new next × Kept meaning config table after new next intakes None }
 {}
 
 /// The request of a connection that is being read was admitted, its head was taken off its reader, and its intake has the

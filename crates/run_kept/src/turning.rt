@@ -15,6 +15,7 @@ ghost use Rattle.run_meaning.specs.Server.{Server as Meaning};
 ghost use Rattle.run_meaning.specs.Lines.{plain};
 ghost use Rattle.run_meaning.specs.Settled as meant;
 ghost use Rattle.run_meaning.specs.Right.{Right, Sound};
+ghost use Rattle.run_meaning.specs.Told.{AreTold, ToldRight};
 ghost use Rattle.hub_lines.specs.State.{Server, server};
 ghost use Rattle.hub_lines.specs.Calls.{Settled, Ties, nothing};
 ghost use Rattle.hub_notes.specs.Fronts.{RingsWait};
@@ -62,21 +63,22 @@ pub fn turn_ended<H: Handler>()
         (after ≡ notes ++ (ends.proceeds.sending ++ (finishes ends.finished ++ note.turn ∷ []))) × Kept meaning config table after new now intakes None }
 {}
 
-/// What is kept after a turn is right, where the counts of items are below their end and each note is sound: with what the rings
-/// hold of connections that are not gone.
+/// What is kept after a turn is right, where the counts of items are below their end, each note is sound, and what the handler was told
+/// is right: with what the rings hold of connections that are not gone.
 pub fn carried_right<H: Handler>()
     ensures { (meaning : Meaning H.State) (config : ConfigValue) (table : RouteTable) (notes : List NoteValue) (s : Server) (now : H.State) (intakes : ℕ → IntakeView) →
         Kept meaning config table notes s now intakes None → Settled s.hub → ((conn : ℕ) → length (plain meaning notes conn) < 2 ^ 64 - 1) →
         ((before rest : List NoteValue) (this : NoteValue) → notes ≡ before ++ this ∷ rest → Sound meaning config before this) →
-        Right meaning config table notes s.net now (backlog_at s.hub) }
+        ToldRight meaning notes → Right meaning config table notes s.net now (backlog_at s.hub) }
 {}
 
-/// After the end of a turn all is settled, where no Closed event was due as it began: with what the rings hold of connections that
-/// are not gone.
+/// After the end of a turn all is settled, where no Closed event was due as it began, and the handler was told in it of those that had
+/// something to tell: with what the rings hold of connections that are not gone.
 pub fn turn_settled<H: Handler>()
     ensures { (answer : NetEvent) (old new : Server) (net : NetState) → is_rest answer ≡ true → Nexts answer old.net net → EndsTurn (server old.hub net old.told) new →
         (meaning : Meaning H.State) (config : ConfigValue) (table : RouteTable) (notes after : List NoteValue) (now : H.State) (intakes : ℕ → IntakeView) →
         Kept meaning config table notes old now intakes None → length old.net.passed < 2 ^ 64 - 1 → Appends nothing (server old.hub net old.told) new → new.told ≡ Some after →
         IsTable (table_of old.hub) → IsTable (table_of new.hub) → Settled new.hub → Ties new → RingsWait old → AreRead None old → AreThere old → ((conn : ℕ) → due_at old.hub conn ≡ None) →
+        ((before made : List NoteValue) → after ≡ before ++ made → meant.IsTurn before made → AreTold meaning before made) →
         meant.Settled meaning after new.net (record { pending = 0; gathered = []; backlog = backlog_at new.hub }) }
 {}

@@ -1,11 +1,12 @@
 -- A hub beside what its notes say, after each kind of step.
-use Rattle.run_laws.proofs.Below.{◌≡◌, ◌≢◌, ℕ, List, [], ◌∷◌, ◌++◌, Option, Some, None, Bool, true, false, cond, nat_eq, refl, sym, ap, ◌∙◌, subst, append-nil, ⊎_elim, arith, cases_eq, nat_tests, list_any, itself, by_cases, clash, Phase, Head, Open, Leaving, Ending, Gone, NoteValue, NetState, Item, is_of, is_acceptance, closes, closed_by, is_accepted, Line, World, is_open, moved, leaves_open, cause_of, after_own, line_after, noted, noted_all, unknown, closes-append, lines_after, noted_line, own_line, other_line, taken_of, is_dropped, drops, HubState, Server, nothing, IsNewTo, Starts, is_dropped_note, AreNoted, Progress, due_at, progress_at, progress_by, progress_after, progress_after_all, unless_gone, items_at, Advances, Appends, unaccepted, AgreesAt, Agrees, IsToldOnce, line_progress, untold, is_early, is_closed, is_wordless}
+use Rattle.run_laws.proofs.Below.{◌≡◌, ◌≢◌, ℕ, List, [], ◌∷◌, ◌++◌, Option, Some, None, Bool, true, false, cond, nat_eq, refl, sym, ap, ◌∙◌, subst, append-nil, ⊎_elim, arith, cases_eq, nat_tests, list_any, itself, by_cases, clash, Phase, Head, Open, Leaving, Ending, Gone, NoteValue, NetState, Item, is_of, is_acceptance, closes, closed_by, is_accepted, Line, World, is_open, moved, leaves_open, cause_of, after_own, line_after, noted, noted_all, unknown, closes-append, lines_after, noted_line, own_line, other_line, taken_of, is_silent, took_sum, HubState, Server, nothing, IsNewTo, Starts, AreNoted, NetAfter, taken, taken-append, took_named, add-zero, ◌&&◌, ◌+◌, ◌≤◌, length, Progress, due_at, progress_at, progress_by, progress_after, progress_after_all, unless_gone, items_at, Advances, Appends, unaccepted, AgreesAt, Agrees, IsToldOnce, line_progress, untold, is_early, is_closed, is_wordless, silent_sum, sum_more, taken_some}
 use Rattle.run_laws.proofs.Adding.{other_accepted}
 use Rattle.ws_kinds.specs.NoteValue as note
 use Rattle.run_meaning.specs.Server as run
 use Rattle.run_laws.specs.Tests.{is_aside}
 use Rattle.run_laws.proofs.ProgressLemmas.{Ends, told_none, all_progress, all_none, wordless_line, unclosed, closes_same, progress_is}
-use Rattle.run_laws.proofs.RestLemmas.{Rests, DropsNothing, rests_then, rests_as}
+use Rattle.run_laws.proofs.RestLemmas.{Rests, SaysNothing, rests_then, rests_as}
+use Rattle.hub_lines.specs.Told.{took_by}
 
 abbrev shown_of : Progress → Option Phase
 shown_of p = p.phase
@@ -13,10 +14,10 @@ shown_of p = p.phase
 -- ---- one connection
 
 pub rests_of : (c : ℕ) (l : Line) (ns : List NoteValue) (s : Server) → AgreesAt c l ns s → Rests c l.phase l.items s
-rests_of c l ns s x = record { shown = ap shown_of x.progress; known = x.known; stands = x.stands; count = x.count; front = x.front }
+rests_of c l ns s x = record { shown = ap shown_of x.progress; known = x.known; stands = x.stands; count = x.count; front = x.front; fair = x.fair; drops = x.drops }
 
 pub agrees_of : (c : ℕ) (l : Line) (ns : List NoteValue) (s : Server) → Rests c l.phase l.items s → progress_at s.hub c ≡ line_progress l (closes c ns) → Ends l (closes c ns) → AgreesAt c l ns s
-agrees_of c l ns s x progress ends = record { progress = progress; early = ends.early; once = ends.once; topics = ends.topics; known = x.known; stands = x.stands; count = x.count; front = x.front }
+agrees_of c l ns s x progress ends = record { progress = progress; early = ends.early; once = ends.once; topics = ends.topics; known = x.known; stands = x.stands; count = x.count; front = x.front; fair = x.fair; drops = x.drops }
 
 pub ends_of : (c : ℕ) (l : Line) (ns : List NoteValue) (s : Server) → AgreesAt c l ns s → Ends l (closes c ns)
 ends_of c l ns s x = record { early = x.early; once = x.once; topics = x.topics }
@@ -43,10 +44,28 @@ at_call r c l ns ms f a b x adv app away none items =
     let all = all_progress r c ms l told away (ends_of c l ns a x) in
     let progress : progress_at b.hub c ≡ line_progress (lines_after r c ms l) told = adv.progress c ∙ ap (λ (z : Progress). progress_after_all c ms z) x.progress ∙ all.0 in
     agrees_of c (lines_after r c ms l) (ns ++ ms) b
-    (rests_then c l.phase (lines_after r c ms l).phase l.items (lines_after r c ms l).items (f c) a b (rests_of c l ns a x) app.lines.named (app.lines.lines c) (app.fronts c)
+    (rests_then c l.phase (lines_after r c ms l).phase l.items (lines_after r c ms l).items (f c) a b (rests_of c l ns a x) app.lines.config app.lines.named (app.lines.lines c) (app.fronts c)
     (ap shown_of progress) (λ known e. known (all_none r c ms l away e)) items)
     (progress ∙ ap (λ (z : List (ℕ × List ℕ)). line_progress (lines_after r c ms l) z) (sym same))
     (subst (λ (z : List (ℕ × List ℕ)). Ends (lines_after r c ms l) z) (sym same) all.1)
+
+-- ---- the octets taken
+
+more_took : (k l m n k' l' : ℕ) → k ≤ l → m ≡ n → k' ≡ k + m → l' ≡ l + n → k' ≤ l'
+more_took k l m n k' l' few same e h = omega arith
+
+-- the notes of a call tell as many further octets as its net
+pub took_after : (c : ℕ) (ns ms : List NoteValue) (old new : NetState) → NetAfter ms old new → old.tells ≡ true → took_sum c ns ≤ length (old.taken c) → took_sum c (ns ++ ms) ≤ length (new.taken c)
+took_after c ns ms old new after tells few =
+    more_took (took_sum c ns) (length (old.taken c)) (took_sum c ms) (taken c ms) (took_sum c (ns ++ ms)) (length (new.taken c)) few (took_named c ms)
+    (took_named c (ns ++ ms) ∙ taken-append c ns ms ∙ ap (λ (z : ℕ). z + taken c ms) (sym (took_named c ns)) ∙ ap (λ (z : ℕ). took_sum c ns + z) (sym (took_named c ms)))
+    ((after.told tells).taken c)
+
+-- a note that tells no octets, over the same net
+took_still : (c : ℕ) (ns : List NoteValue) (n : NoteValue) (old new : NetState) → new ≡ old → is_silent c n ≡ true → took_sum c ns ≤ length (old.taken c) → took_sum c (ns ++ n ∷ []) ≤ length (new.taken c)
+took_still c ns n old new same silent few =
+    more_took (took_sum c ns) (length (old.taken c)) (took_by c n) 0 (took_sum c (ns ++ n ∷ [])) (length (new.taken c)) few (silent_sum c n silent)
+    (sum_more c ns n) (ap (λ (z : NetState). length (z.taken c)) same ∙ sym (add-zero (length (old.taken c))))
 
 -- ---- calls
 
@@ -60,6 +79,7 @@ module _ {S : Type 0} (r : run.Server S) where
     lines = λ c. subst (λ (z : Line). AgreesAt c z (ns ++ ms) b) (sym (noted_line r c ms w))
         (at_call r c (w.line c) ns ms f a b (x.lines c) adv app (unaccepted ms c away) (unclosed ms c none)
         (ap (λ (z : Line). z.items) (sym (noted_line r c ms w)) ∙ items c));
+    took = λ c. took_after c ns ms a.net b.net adv.net x.tells (x.took c);
   }
 
 -- ---- what is due
@@ -90,8 +110,12 @@ agrees_untold w ns s agrees c left = told_none (w.line c).left_open (closes c ns
 
 -- ---- the net alone
 
-told_stays : (c : ℕ) (old new : Option (List NoteValue)) → new ≡ old → DropsNothing c old new
-told_stays c old new e notes en = (notes, sym e ∙ en, λ i. refl)
+told_stays : (c : ℕ) (old new : Option (List NoteValue)) → new ≡ old → SaysNothing c old new
+told_stays c old new e notes en = (notes, [], sym e ∙ en, sym (append-nil notes), refl)
+
+same_taken : (c : ℕ) (old new : NetState) → old.tells ≡ true → taken_of new c ≡ taken_of old c → new.tells ≡ true → new.taken c ≡ old.taken c
+same_taken c old new was same tells =
+    (taken_some new.tells (new.taken c) (old.taken c) (same ∙ ap (λ (z : Bool). cond z (Some (old.taken c)) None) was)).1
 
 pub agrees_net : {S : Type 0} (w : World S) (ns : List NoteValue) (a b : Server) → Agrees w ns a → b.hub ≡ a.hub → b.told ≡ a.told → b.net.tells ≡ true → ((c : ℕ) → taken_of b.net c ≡ taken_of a.net c) → Agrees w ns b
 agrees_net w ns a b x hub told tells same = record {
@@ -101,8 +125,9 @@ agrees_net w ns a b x hub told tells same = record {
       let l = w.line c in
       let y = x.lines c in
       agrees_of c l ns b
-      (rests_as c l.phase l.items a b hub (same c) (told_stays c a.told b.told told) (rests_of c l ns a y))
+      (rests_as c l.phase l.items a b hub (tells ∙ sym x.tells) (same c) (told_stays c a.told b.told told) (rests_of c l ns a y))
       (ap (λ (z : HubState). progress_at z c) hub ∙ y.progress) (ends_of c l ns a y);
+  took = λ c. subst (λ (z : List ℕ). took_sum c ns ≤ length z) (sym (same_taken c a.net b.net x.tells (same c) tells)) (x.took c);
 }
 
 -- ---- a note that the loop makes
@@ -156,15 +181,16 @@ wordless_aside (note.peer_close c code reason) e = clash false refl e
 wordless_aside (note.failed c code) e = clash false refl e
 wordless_aside _ e = refl
 
-drops_aside : (c i : ℕ) (n : NoteValue) → is_aside n ≡ true → drops c i n ≡ false
-drops_aside c i (note.dropped d j held) e = clash false refl e
-drops_aside c i _ e = refl
+silent_aside : (c : ℕ) (n : NoteValue) → is_aside n ≡ true → is_silent c n ≡ true
+silent_aside c (note.took d offered count) e = clash false refl e
+silent_aside c (note.dropped d j held) e = clash false refl e
+silent_aside c _ e = refl
 
--- a note by which no item of the connection was dropped
-drops_none : (c : ℕ) (ns : List NoteValue) (n : NoteValue) (old new : Option (List NoteValue)) → old ≡ Some ns → new ≡ Some (ns ++ n ∷ []) → ((i : ℕ) → drops c i n ≡ false) → DropsNothing c old new
-drops_none c ns n old new eo en silent notes e =
+-- one note, which is silent of the connection
+says_one : (c : ℕ) (ns : List NoteValue) (n : NoteValue) (old new : Option (List NoteValue)) → old ≡ Some ns → new ≡ Some (ns ++ n ∷ []) → is_silent c n ≡ true → SaysNothing c old new
+says_one c ns n old new eo en silent notes e =
     let same : notes ≡ ns ++ n ∷ [] = let z : Some notes ≡ Some (ns ++ n ∷ []) = sym e ∙ en in cc in
-    (ns, eo, λ i. ap (λ (z : List NoteValue). is_dropped c z i) same ∙ is_dropped_note c ns n i (silent i))
+    (ns, n ∷ [], eo, same, ap (λ (z : Bool). z && true) silent)
 
 module _ {S : Type 0} (r : run.Server S) where
   -- a note that moves nothing leaves phase, end and topics
@@ -213,8 +239,9 @@ module _ {S : Type 0} (r : run.Server S) where
         let still = moved_aside l.phase n aside in
         at_note c n l ns b still (closed_aside c n aside)
         (rests_still c n l b still (wordless_aside n aside)
-        (rests_as c l.phase l.items a b hub (ap (λ (z : NetState). taken_of z c) net) (drops_none c ns n a.told b.told x.told told (λ i. drops_aside c i n aside)) (rests_of c l ns a y)))
+        (rests_as c l.phase l.items a b hub (ap (λ (z : NetState). z.tells) net) (ap (λ (z : NetState). taken_of z c) net) (says_one c ns n a.told b.told x.told told (silent_aside c n aside)) (rests_of c l ns a y)))
         (ap (λ (z : HubState). progress_at z c) hub ∙ y.progress) (ends_of c l ns a y);
+    took = λ c. took_still c ns n a.net b.net net (silent_aside c n aside) (x.took c);
   }
 
   -- ---- a connection is accepted
@@ -223,8 +250,8 @@ module _ {S : Type 0} (r : run.Server S) where
   accepts c l e = ap (λ (z : Line). line_after r c (note.accepted c) z) e ∙ ap (λ (z : Bool). cond z (after_own r (note.accepted c) unknown) unknown) (itself c)
 
   at_accepted : (c : ℕ) (ns : List NoteValue) (a b : Server) → progress_at a.hub c ≡ line_progress unknown [] → Advances (note.accepted c ∷ []) a b → Starts c b → b.hub.named ≡ c → IsNewTo c b → items_at b.hub c ≡ 0
-      → closes c ns ≡ [] → AgreesAt c (record unknown { phase = Some Head }) (ns ++ note.accepted c ∷ []) b
-  at_accepted c ns a b before adv starts named fresh none untold_yet =
+      → ((notes : List NoteValue) → b.told ≡ Some notes → took_sum c notes ≡ 0) → closes c ns ≡ [] → AgreesAt c (record unknown { phase = Some Head }) (ns ++ note.accepted c ∷ []) b
+  at_accepted c ns a b before adv starts named fresh none took untold_yet =
       let n = note.accepted c in
       let told : closes c (ns ++ n ∷ []) ≡ [] = closes_same c ns (n ∷ []) refl ∙ untold_yet in
       let own : is_of c n ≡ true = grind (arith, nat_tests) in
@@ -238,7 +265,15 @@ module _ {S : Type 0} (r : run.Server S) where
         stands = λ there. starts.stands fresh;
         count = λ there few. none;
         front = λ gone few. clash false refl gone;
+        fair = λ there. starts.fair fresh took;
+        drops = λ gone few. clash false refl gone;
       }
+
+  took_nothing : (c : ℕ) (ns notes : List NoteValue) (octets : List ℕ) (t : Option (List NoteValue)) → t ≡ Some ns → t ≡ Some notes → took_sum c ns ≤ length octets → octets ≡ [] → took_sum c notes ≡ 0
+  took_nothing c ns notes octets t told e few none =
+      let same : notes ≡ ns = let z : Some notes ≡ Some ns = sym e ∙ told in cc in
+      let empty : length octets ≡ 0 = ap length none in
+      ap (took_sum c) same ∙ omega arith
 
   other_of : (c d : ℕ) → d ≢ c → nat_eq c d ≡ false
   other_of c d ne = grind (arith, nat_tests)
@@ -248,12 +283,17 @@ module _ {S : Type 0} (r : run.Server S) where
   agrees_accepted w c ns after a b x adv app told starts named fresh none unknown_yet untold_yet =
       let n = note.accepted c in
       let before : progress_at a.hub c ≡ line_progress unknown [] = (x.lines c).progress ∙ ap (λ (z : Line). line_progress z (closes c ns)) unknown_yet ∙ ap (λ (z : List (ℕ × List ℕ)). line_progress unknown z) untold_yet in
+      let tells : b.net.tells ≡ true = adv.net.net.tells ∙ x.tells in
+      let told_now = told_is ns (n ∷ []) after a.told b.told adv.told x.told told in
+      let took_now : (d : ℕ) → took_sum d (ns ++ n ∷ []) ≤ length (b.net.taken d) = λ d. took_after d ns (n ∷ []) a.net b.net adv.net x.tells (x.took d) in
+      let took_none : (notes : List NoteValue) → b.told ≡ Some notes → took_sum c notes ≡ 0 = λ notes e. took_nothing c (ns ++ n ∷ []) notes (b.net.taken c) b.told told_now e (took_now c) (fresh.taken tells) in
       record {
-        tells = adv.net.net.tells ∙ x.tells;
-        told = told_is ns (n ∷ []) after a.told b.told adv.told x.told told;
+        tells = tells;
+        told = told_now;
+        took = took_now;
         lines = λ d. ⊎_elim
             (λ (q : d ≡ c). subst (λ (z : ℕ). AgreesAt z ((noted r n w).line z) (ns ++ n ∷ []) b) (sym q)
-            (subst (λ (z : Line). AgreesAt c z (ns ++ n ∷ []) b) (sym (accepts c (w.line c) unknown_yet)) (at_accepted c ns a b before adv starts named fresh none untold_yet)))
+            (subst (λ (z : Line). AgreesAt c z (ns ++ n ∷ []) b) (sym (accepts c (w.line c) unknown_yet)) (at_accepted c ns a b before adv starts named fresh none took_none untold_yet)))
             (λ (ne : d ≢ c). at_call r d (w.line d) ns (n ∷ []) nothing a b (x.lines d) adv app (other_accepted c d ne) refl
             (ap (λ (z : Line). z.items) (other_line r d n (w.line d) (other_of c d ne)) ∙ sym (append-nil (w.line d).items)))
             (cases_eq d c);
@@ -281,8 +321,8 @@ module _ {S : Type 0} (r : run.Server S) where
   rests_closed c code reason l d ns a b e x told_a app phase told_b hub net told =
       let n = note.closed c code reason in
       rests_still d n l e (moved_closed l.phase c code reason) refl
-      (rests_as d l.phase l.items b e hub (ap (λ (z : NetState). taken_of z d) net) (drops_none d ns n b.told e.told (told_b ∙ told_a) told (λ i. refl))
-      (rests_then d l.phase l.phase l.items l.items [] a b (rests_of d l ns a x) app.lines.named (app.lines.lines d) (app.fronts d) (phase ∙ ap shown_of x.progress) (λ known. known) (sym (append-nil l.items))))
+      (rests_as d l.phase l.items b e hub (ap (λ (z : NetState). z.tells) net) (ap (λ (z : NetState). taken_of z d) net) (says_one d ns n b.told e.told (told_b ∙ told_a) told refl)
+      (rests_then d l.phase l.phase l.items l.items [] a b (rests_of d l ns a x) app.lines.config app.lines.named (app.lines.lines d) (app.fronts d) (phase ∙ ap shown_of x.progress) (λ known. known) (sym (append-nil l.items))))
 
   pub agrees_closed : (w : World S) (c code : ℕ) (reason : List ℕ) (ns : List NoteValue) (a b e : Server) → Agrees w ns a → due_at a.hub c ≡ Some (code, reason)
       → Appends nothing a b → progress_at b.hub c ≡ record (progress_at a.hub c) { due = None } → ((d : ℕ) → d ≢ c → progress_at b.hub d ≡ progress_at a.hub d) → b.net ≡ a.net → b.told ≡ a.told
@@ -293,6 +333,7 @@ module _ {S : Type 0} (r : run.Server S) where
       record {
         tells = ap (λ (z : NetState). z.tells) (net ∙ net_b) ∙ x.tells;
         told = told;
+        took = λ d. took_still d ns n a.net e.net (net ∙ net_b) refl (x.took d);
         lines = λ d. ⊎_elim
             (λ (q : d ≡ c). subst (λ (z : ℕ). AgreesAt z ((noted r n w).line z) (ns ++ n ∷ []) e) (sym q)
             (let l = w.line c in

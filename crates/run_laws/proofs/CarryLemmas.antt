@@ -1,32 +1,14 @@
 -- What a hub holds after a turn, beside the items of its notes; and its phases beside those of the notes.
-use Rattle.run_laws.proofs.Below.{◌≡◌, ◌<◌, ◌+◌, ◌^◌, ◌-◌, ℕ, List, [], ◌∷◌, ◌++◌, Some, None, Bool, true, false, cond, nat_eq, ◌&&◌, ◌||◌, length, refl, sym, ap, ◌∙◌, arith, NoteValue, Item, spelled, all_spelled, only_if, has_number, dropped_by, is_accepted, World, world, is_gone_phase, phase, plain, unless_gone, without, Carries, Carried, has_number-append, taken_of, is_dropped, drops, kept, HubState, Server, Entry, has_entry, entry_at, phase_at, numbered_at, pending_at, ring_at, Settled, none_of, progress_at, by_cases, Agrees}
-use Rattle.run_laws.proofs.Adding.{same_number}
-use Rattle.ws_kinds.specs.NoteValue as note
+use Rattle.run_laws.proofs.Below.{◌≡◌, ◌<◌, ◌+◌, ◌^◌, ◌-◌, ℕ, List, [], ◌∷◌, ◌++◌, Some, None, Bool, true, false, cond, length, refl, sym, ap, ◌∙◌, arith, NoteValue, Item, spelled, all_spelled, has_number, is_accepted, World, world, is_gone_phase, phase, plain, unless_gone, without, Carries, Carried, dropped_named, taken_of, is_dropped, kept, HubState, Server, Entry, has_entry, entry_at, phase_at, numbered_at, pending_at, ring_at, Settled, none_of, progress_at, by_cases, Agrees}
 use Rattle.run_meaning.specs.Counts as counts
 use Rattle.run_meaning.specs.Server as run
 use Rattle.run_meaning.specs.Kept as meant
 use Rattle.hub_lines.proofs.CallLemmas as calls
-use Rattle.ws_kinds.proofs.Facts.{or_false}
 use Rattle.run_laws.proofs.WorldLemmas.{accepted_known}
 use Rattle.run_laws.proofs.RestLemmas.{there_by_phase}
 use Rattle.run_laws.proofs.AgreeLemmas.{rests_of}
 
--- ---- what was dropped
-
-names_if : (i j : ℕ) (b : Bool) → (b && nat_eq i j) ≡ has_number i (only_if b j)
-names_if i j true = or_false (nat_eq i j)
-names_if i j false = refl
-
-one_dropped : (c i : ℕ) (n : NoteValue) → drops c i n ≡ has_number i (dropped_by c n)
-one_dropped c i (note.dropped d j held) = ap (λ (z : Bool). z && nat_eq i j) (same_number c d) ∙ names_if i j (nat_eq d c)
-one_dropped c i _ = refl
-
--- an item was dropped where its index is among those that the notes name
-pub dropped_named : (c i : ℕ) (ns : List NoteValue) → is_dropped c ns i ≡ has_number i (counts.drops c ns)
-dropped_named c i [] = refl
-dropped_named c i (n ∷ ns) =
-    ap (λ (z : Bool). z || is_dropped c ns i) (one_dropped c i n) ∙ ap (λ (z : Bool). has_number i (dropped_by c n) || z) (dropped_named c i ns)
-    ∙ sym (has_number-append i (dropped_by c n) (counts.drops c ns))
+-- ---- what was not dropped
 
 kept_one : (x : Item) (zs : List Item) (b : Bool) → cond b [] (spelled x) ++ all_spelled zs ≡ all_spelled (cond b zs (x ∷ zs))
 kept_one x zs true = refl

@@ -29,7 +29,10 @@ agrees_first r s tells told entries pairs partings = record {
     stands = λ there. clash (is_present s.hub c) (nobody_there s.hub c entries) there;
     count = λ there few. clash (is_present s.hub c) (nobody_there s.hub c entries) there;
     front = λ gone few. clash false refl gone;
+    fair = λ there. clash (is_present s.hub c) (nobody_there s.hub c entries) there;
+    drops = λ gone few. clash false refl gone;
   };
+  took = λ c. omega arith;
 }
 
 -- ---- one connection counts by both

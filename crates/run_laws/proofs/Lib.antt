@@ -4,6 +4,7 @@ pub mod RestLemmas
 pub mod AgreeLemmas
 pub mod StepLemmas
 pub mod CarryLemmas
+pub mod FairLemmas
 pub mod HubLemmas
 pub mod CountLemmas
 pub mod Adding

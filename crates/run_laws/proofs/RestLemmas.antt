@@ -1,5 +1,6 @@
--- What agrees of a connection besides what is due of it: its phase, its line, the count of its items, and what its link took.
-use Rattle.run_laws.proofs.Below.{◌≡◌, ◌≢◌, ◌<◌, ◌≤◌, ◌+◌, ◌^◌, ◌-◌, ℕ, List, ◌++◌, Option, Some, None, true, false, length, refl, sym, ap, ◌∙◌, subst, length-append, arith, Phase, Head, Open, Leaving, Ending, Gone, NoteValue, NetState, Item, is_gone_phase, taken_of, is_dropped, HubState, Server, server, is_present, Held, Stands, StandsFor, StandsTold, held_at, KeepsLine, kept_same, progress_at, unless_gone, TakesFront, KeepsFront, items_at, by_cases, clash, front_later, away_by_phase, phase_of_away}
+-- What agrees of a connection besides what is due of it: its phase, its line, the count of its items, what its
+-- link took, and what was dropped.
+use Rattle.run_laws.proofs.Below.{◌≡◌, ◌≢◌, ◌<◌, ◌≤◌, ◌+◌, ◌^◌, ◌-◌, ℕ, List, [], ◌∷◌, ◌++◌, Option, Some, None, true, false, length, refl, sym, ap, ◌∙◌, subst, append-nil, append_assoc, length-append, arith, list_all, and_left, and_right, ConfigValue, Phase, Head, Open, Leaving, Ending, Gone, NoteValue, NetState, Item, is_gone_phase, taken_of, is_dropped, HubState, Server, server, is_present, Held, Stands, StandsFor, StandsTold, FairLine, FairFor, FairTold, DropsFairly, is_silent, held_at, KeepsLine, kept_same, faired_silent, SameDrops, drops_as, fairly_later, fairly_longer, silent_undropped, progress_at, unless_gone, TakesFront, KeepsFront, items_at, by_cases, clash, front_later, away_by_phase, phase_of_away}
 
 -- by its phase and its items
 pub record Rests (conn : ℕ) (phase : Option Phase) (items : List Item) (s : Server) : Type 0 where
@@ -8,6 +9,8 @@ pub record Rests (conn : ℕ) (phase : Option Phase) (items : List Item) (s : Se
   pub stands : is_present s.hub conn ≡ true → StandsFor conn s items
   pub count : is_present s.hub conn ≡ true → length items < 2 ^ 64 - 1 → items_at s.hub conn ≡ length items
   pub front : is_gone_phase phase ≡ true → length items < 2 ^ 64 - 1 → TakesFront conn items s.net s.told
+  pub fair : is_present s.hub conn ≡ true → FairFor conn s items
+  pub drops : is_gone_phase phase ≡ true → length items < 2 ^ 64 - 1 → DropsFairly conn s.hub.config.limit items s.net s.told
 
 -- ---- phases
 
@@ -59,9 +62,9 @@ count_after i j x y k last e h g few =
 
 -- ---- a call that appends these items
 
-pub rests_then : (c : ℕ) (p q : Option Phase) (xs ys more : List Item) (a b : Server) → Rests c p xs a → a.hub.named ≤ b.hub.named → (c ≤ a.hub.named → KeepsLine c more a b) → (c ≤ a.hub.named → KeepsFront c more a b)
+pub rests_then : (c : ℕ) (p q : Option Phase) (xs ys more : List Item) (a b : Server) → Rests c p xs a → b.hub.config ≡ a.hub.config → a.hub.named ≤ b.hub.named → (c ≤ a.hub.named → KeepsLine c more a b) → (c ≤ a.hub.named → KeepsFront c more a b)
     → (progress_at b.hub c).phase ≡ unless_gone q → (q ≢ None → p ≢ None) → ys ≡ xs ++ more → Rests c q ys b
-rests_then c p q xs ys more a b x named lines fronts shown back e =
+rests_then c p q xs ys more a b x config named lines fronts shown back e =
     let sum : length ys ≡ length xs + length more = ap length e ∙ length-append xs more in
     let was_known : is_present b.hub c ≡ true → c ≤ a.hub.named = λ there. x.known (back (there_known b.hub c q shown there)) in
     record {
@@ -76,19 +79,37 @@ rests_then c p q xs ys more a b x named lines fronts shown back e =
           (λ was.
           let away = away_by_gone a.hub c p x.shown was in
           let front = fronts (x.known (gone_known p was)) in
-          front_later c xs more a.net b.net a.told b.told (front.taken away) front.told (front.drops away) (x.front was (fewer (length xs) (length more) (length ys) (2 ^ 64 - 1) sum few)))
+          front_later c xs more a.net b.net a.told b.told (front.taken away) (front.drops away) (x.front was (fewer (length xs) (length more) (length ys) (2 ^ 64 - 1) sum few)))
           (λ was.
           let known = back (gone_known q gone) in
           let there = there_by_phase a.hub c p x.shown known was in
           let front = fronts (x.known known) in
           front.front there (away_by_gone b.hub c q shown gone) (few_after (items_at a.hub c) (length xs) (length more) (length ys) (2 ^ 64 - 1) sum (x.count there) few) xs (x.stands there)));
+      fair = λ there.
+          let line = lines (was_known there) in
+          let was = line.present there in
+          subst (λ (z : List Item). FairFor c b z) (sym e) (line.fair there xs (x.stands was) (x.fair was));
+      drops = λ gone few. subst (λ (z : List Item). DropsFairly c b.hub.config.limit z b.net b.told) (sym e) (subst (λ (z : ConfigValue). DropsFairly c z.limit (xs ++ more) b.net b.told) (sym config) (by_cases (is_gone_phase p)
+          (λ was.
+          let front = fronts (x.known (gone_known p was)) in
+          fairly_longer c a.hub.config.limit xs more b.net b.told
+          (front.stays (away_by_gone a.hub c p x.shown was) a.hub.config.limit xs (x.drops was (fewer (length xs) (length more) (length ys) (2 ^ 64 - 1) sum few))))
+          (λ was.
+          let known = back (gone_known q gone) in
+          let there = there_by_phase a.hub c p x.shown known was in
+          let front = fronts (x.known known) in
+          front.fair there (away_by_gone b.hub c q shown gone) (few_after (items_at a.hub c) (length xs) (length more) (length ys) (2 ^ 64 - 1) sum (x.count there) few) xs (x.stands there) (x.fair there))));
     }
 
 -- ---- a step outside of the hub
 
--- where the watch tells, it told before, and no further item of the connection was dropped
-abbrev pub DropsNothing : ℕ → Option (List NoteValue) → Option (List NoteValue) → Type 0
-DropsNothing conn old new = (notes : List NoteValue) → new ≡ Some notes → (earlier : List NoteValue) × (old ≡ Some earlier) × ((index : ℕ) → is_dropped conn notes index ≡ is_dropped conn earlier index)
+-- where the watch tells, it told before, and what it told since then is silent of the connection
+abbrev pub SaysNothing : ℕ → Option (List NoteValue) → Option (List NoteValue) → Type 0
+SaysNothing conn old new = (notes : List NoteValue) → new ≡ Some notes
+    → (before : List NoteValue) × (made : List NoteValue) × (old ≡ Some before) × (notes ≡ before ++ made) × (list_all (is_silent conn) made ≡ true)
+
+says_drops : (c : ℕ) (t t' : Option (List NoteValue)) → SaysNothing c t t' → SameDrops c t t'
+says_drops c t t' says notes e = let q = says notes e in (q.0, q.1, q.2, q.3, silent_undropped c q.1 q.4)
 
 stood_as : (c : ℕ) (b : Held) (octets : List ℕ) (ns ms : List NoteValue) (items : List Item) → ((i : ℕ) → is_dropped c ms i ≡ is_dropped c ns i) → StandsTold c b octets ns items → StandsTold c b octets ms items
 stood_as c b octets ns ms items same s = record {
@@ -98,31 +119,40 @@ stood_as c b octets ns ms items same s = record {
   indices = λ i d. s.indices i (sym (same i) ∙ d);
 }
 
-stands_as : (c : ℕ) (b : Held) (g g' : Option (List ℕ)) (t t' : Option (List NoteValue)) (items : List Item) → g' ≡ g → DropsNothing c t t' → Stands c b g t items → Stands c b g' t' items
+stands_as : (c : ℕ) (b : Held) (g g' : Option (List ℕ)) (t t' : Option (List NoteValue)) (items : List Item) → g' ≡ g → SameDrops c t t' → Stands c b g t items → Stands c b g' t' items
 stands_as c b g g' t t' items same drops s = record {
   where_told = λ octets eo notes en few.
       let d = drops notes en in
-      stood_as c b octets d.0 notes items d.2 (s.where_told octets (sym same ∙ eo) d.0 d.1 few);
+      stood_as c b octets d.0 notes items (drops_as c d.0 d.1 notes d.3 d.4) (s.where_told octets (sym same ∙ eo) d.0 d.2 few);
 }
 
-front_as : (c : ℕ) (xs : List Item) (n n' : NetState) (t t' : Option (List NoteValue)) → taken_of n' c ≡ taken_of n c → DropsNothing c t t' → TakesFront c xs n t → TakesFront c xs n' t'
-front_as c xs n n' t t' same drops x = record {
-  where_told = λ octets eo notes en.
-      let d = drops notes en in
-      let w = x.where_told octets (sym same ∙ eo) d.0 d.1 in
-      (w.0, kept_same (is_dropped c d.0) (is_dropped c notes) 0 xs (λ j low high. d.2 j) ∙ w.1);
+faired_as : (c l : ℕ) (ring octets : List ℕ) (ns ms : List NoteValue) (items : List Item) → list_all (is_silent c) ms ≡ true → FairTold c l ring octets ns items → FairTold c l ring octets (ns ++ ms) items
+faired_as c l ring octets ns [] items silent f = subst (λ (z : List NoteValue). FairTold c l ring octets z items) (sym (append-nil ns)) f
+faired_as c l ring octets ns (n ∷ ms) items silent f = subst (λ (z : List NoteValue). FairTold c l ring octets z items) (append_assoc ns (n ∷ []) ms)
+    (faired_as c l ring octets (ns ++ n ∷ []) ms items (and_right (is_silent c n) (list_all (is_silent c) ms) silent)
+    (faired_silent c l ring octets ns n items (and_left (is_silent c n) (list_all (is_silent c) ms) silent) f))
+
+fair_as : (c l : ℕ) (b : Held) (g g' : Option (List ℕ)) (t t' : Option (List NoteValue)) (items : List Item) → g' ≡ g → SaysNothing c t t' → FairLine c l b g t items → FairLine c l b g' t' items
+fair_as c l b g g' t t' items same says f = record {
+  where_told = λ octets eo notes en few.
+      let q = says notes en in
+      subst (λ (z : List NoteValue). FairTold c l b.ring octets z items) (sym q.3) (faired_as c l b.ring octets q.0 q.1 items q.4 (f.where_told octets (sym same ∙ eo) q.0 q.2 few));
 }
 
-rests_outside : (c : ℕ) (p : Option Phase) (xs : List Item) (h : HubState) (n n' : NetState) (t t' : Option (List NoteValue)) → taken_of n' c ≡ taken_of n c → DropsNothing c t t'
+rests_outside : (c : ℕ) (p : Option Phase) (xs : List Item) (h : HubState) (n n' : NetState) (t t' : Option (List NoteValue)) → n'.tells ≡ n.tells → taken_of n' c ≡ taken_of n c → SaysNothing c t t'
     → Rests c p xs (server h n t) → Rests c p xs (server h n' t')
-rests_outside c p xs h n n' t t' same drops x = record {
-  shown = x.shown;
-  known = x.known;
-  stands = λ there. stands_as c (held_at h c) (taken_of n c) (taken_of n' c) t t' xs same drops (x.stands there);
-  count = x.count;
-  front = λ gone few. front_as c xs n n' t t' same drops (x.front gone few);
-}
+rests_outside c p xs h n n' t t' tells same says x =
+    let drops = says_drops c t t' says in
+    record {
+      shown = x.shown;
+      known = x.known;
+      stands = λ there. stands_as c (held_at h c) (taken_of n c) (taken_of n' c) t t' xs same drops (x.stands there);
+      count = x.count;
+      front = λ gone few. subst (λ (z : List Item). TakesFront c z n' t') (append-nil xs) (front_later c xs [] n n' t t' same drops (x.front gone few));
+      fair = λ there. let f = x.fair there in record { pending = f.pending; drops = fair_as c h.config.limit (held_at h c) (taken_of n c) (taken_of n' c) t t' xs same says f.drops };
+      drops = λ gone few. fairly_later c h.config.limit xs n n' t t' tells drops (x.drops gone few);
+    }
 
-pub rests_as : (c : ℕ) (p : Option Phase) (xs : List Item) (a b : Server) → b.hub ≡ a.hub → taken_of b.net c ≡ taken_of a.net c → DropsNothing c a.told b.told → Rests c p xs a → Rests c p xs b
-rests_as c p xs a b hub same drops x =
-    subst (λ (z : HubState). Rests c p xs (server z b.net b.told)) (sym hub) (rests_outside c p xs a.hub a.net b.net a.told b.told same drops x)
+pub rests_as : (c : ℕ) (p : Option Phase) (xs : List Item) (a b : Server) → b.hub ≡ a.hub → b.net.tells ≡ a.net.tells → taken_of b.net c ≡ taken_of a.net c → SaysNothing c a.told b.told → Rests c p xs a → Rests c p xs b
+rests_as c p xs a b hub tells same says x =
+    subst (λ (z : HubState). Rests c p xs (server z b.net b.told)) (sym hub) (rests_outside c p xs a.hub a.net b.net a.told b.told tells same says x)

@@ -1,5 +1,5 @@
 -- A hub beside its notes, after a call that is told by its steps; and after the orders of an event.
-use Rattle.run_laws.proofs.Below.{◌≡◌, ◌<◌, ◌^◌, ◌-◌, ◌+◌, ℕ, List, [], ◌∷◌, ◌++◌, Option, Some, None, Bool, true, false, cond, not, ◌&&◌, nat_eq, length, refl, sym, ap, ◌∙◌, subst, append-nil, append_assoc, length-append, arith, list_all, list_any, Phase, Head, Open, Leaving, Ending, Gone, Why, ConfigValue, NoteValue, EventValue, OrderValue, send, subscribe, unsubscribe, publish, close, Item, is_acceptance, closes, is_accepted, has_number, accepted_by, is_dropped, Line, is_open, closing, leaves_open, topics_left, with_topic, without_topic, has_topic, put, data_frame, closed_by_server, obey, World, line_after, noted, noted_all, world, orders_of, Standing, unless_gone, standing_of, is_away, Ordered, event_at, Server, is_present, by_note, by_order, notes_of, standings_after, is_for, items_of, line_by, line_by_all, is_outgoing, Answers, Performs, serves, refuses, Covers, same, event_lines, event_state, event_ordered, all_follow, all_then, none_follow, notes_of-append, notes_of-notes, act, open_shown, accepts_none, items_steps, ends_obeys, Progress, progress_at, progress_by_step, progress_by_steps, progress_obeys, may_step, may_all_step, standing_in, standings_at, Does, ServesAll, by_cases, clash, and_left, and_right, front_later, away_by_phase, unaccepted, AgreesAt, Agrees, line_progress, untold, is_early, IsToldOnce, is_closed, is_of_orders}
+use Rattle.run_laws.proofs.Below.{◌≡◌, ◌<◌, ◌^◌, ◌-◌, ◌+◌, ℕ, List, [], ◌∷◌, ◌++◌, Option, Some, None, Bool, true, false, cond, not, ◌&&◌, nat_eq, length, refl, sym, ap, ◌∙◌, subst, append-nil, append_assoc, length-append, arith, list_all, list_any, Phase, Head, Open, Leaving, Ending, Gone, Why, ConfigValue, NoteValue, EventValue, OrderValue, send, subscribe, unsubscribe, publish, close, Item, is_acceptance, closes, is_accepted, has_number, accepted_by, took_sum, ◌≤◌, drops_still, fairly_longer, Line, is_open, closing, leaves_open, topics_left, with_topic, without_topic, has_topic, put, data_frame, closed_by_server, obey, World, line_after, noted, noted_all, world, orders_of, Standing, unless_gone, standing_of, is_away, Ordered, event_at, Server, is_present, by_note, by_order, notes_of, standings_after, is_for, items_of, line_by, line_by_all, is_outgoing, Answers, Performs, serves, refuses, Covers, same, event_lines, event_state, event_ordered, all_follow, all_then, none_follow, notes_of-append, notes_of-notes, act, open_shown, accepts_none, items_steps, ends_obeys, Progress, progress_at, progress_by_step, progress_by_steps, progress_obeys, may_step, may_all_step, standing_in, standings_at, Does, ServesAll, by_cases, clash, and_left, and_right, front_later, away_by_phase, unaccepted, AgreesAt, Agrees, line_progress, untold, is_early, IsToldOnce, is_closed, is_of_orders}
 use Rattle.ws_kinds.specs.NoteValue as note
 use Rattle.run_meaning.specs.Server as run
 use Rattle.run_meaning.specs.Steps.{Step}
@@ -7,7 +7,7 @@ use Rattle.run_meaning.specs.Bridge.Covers.{more}
 use Rattle.run_laws.proofs.ProgressLemmas.{Ends, progress_is, due_shown, once_more, none_before, one_progress, closes_same, unclosed, all_none}
 use Rattle.run_laws.proofs.WorldLemmas.{obeys_by, none_obeys}
 use Rattle.run_laws.proofs.RestLemmas.{rests_then}
-use Rattle.run_laws.proofs.AgreeLemmas.{rests_of, agrees_of, ends_of, told_is}
+use Rattle.run_laws.proofs.AgreeLemmas.{rests_of, agrees_of, ends_of, told_is, took_after}
 
 -- ---- an order
 
@@ -164,7 +164,7 @@ module _ {S : Type 0} (r : run.Server S) where
       let progress : progress_at b.hub c ≡ line_progress (line_by_all r c xs l) told = does.progress c ∙ ap (progress_by_steps c xs) x.progress ∙ all.0 in
       agrees_of c (line_by_all r c xs l) (ns ++ notes_of xs) b
       (rests_then c l.phase (line_by_all r c xs l).phase l.items (line_by_all r c xs l).items (items_of r.reply c xs (standings_at a.hub c)) a b (rests_of c l ns a x)
-      does.appends.lines.named (does.appends.lines.lines c) (does.appends.fronts c) (ap (λ (z : Progress). z.phase) progress) (λ known e. known (steps_none c xs l away e))
+      does.appends.lines.config does.appends.lines.named (does.appends.lines.lines c) (does.appends.fronts c) (ap (λ (z : Progress). z.phase) progress) (λ known e. known (steps_none c xs l away e))
       (items_steps r c xs l away ∙ ap (λ (z : Standing). l.items ++ items_of r.reply c xs z) (sym (ap standing_in x.progress))))
       (progress ∙ ap (λ (z : List (ℕ × List ℕ)). line_progress (line_by_all r c xs l) z) (sym alike))
       (subst (λ (z : List (ℕ × List ℕ)). Ends (line_by_all r c xs l) z) (sym alike) all.1)
@@ -193,12 +193,13 @@ agrees_more c l xs ns s away x =
       known = x.known;
       stands = λ there. clash (is_present s.hub c) absent there;
       count = λ there. clash (is_present s.hub c) absent there;
-      front = λ gone few. front_later c l.items xs s.net s.net s.told s.told refl (λ notes e. (notes, e)) (λ old new e h i. let z : new ≡ old = some_is new old (sym h ∙ e) in ap (λ (ms : List NoteValue). is_dropped c ms i) z)
-          (x.front gone (longer (length l.items) (length xs) (2 ^ 64 - 1) (subst (λ (k : ℕ). k < 2 ^ 64 - 1) (length-append l.items xs) few)));
+      front = λ gone few. front_later c l.items xs s.net s.net s.told s.told refl (drops_still c s.told) (x.front gone (fewer few));
+      fair = λ there. clash (is_present s.hub c) absent there;
+      drops = λ gone few. fairly_longer c s.hub.config.limit l.items xs s.net s.told (x.drops gone (fewer few));
     }
   where
-    some_is : (new old : List NoteValue) → Some new ≡ Some old → new ≡ old
-    some_is new old e = cc
+    fewer : length (l.items ++ xs) < 2 ^ 64 - 1 → length l.items < 2 ^ 64 - 1
+    fewer few = longer (length l.items) (length xs) (2 ^ 64 - 1) (subst (λ (k : ℕ). k < 2 ^ 64 - 1) (length-append l.items xs) few)
 
 pub agrees_covers : (c : ℕ) (l m : Line) (ns : List NoteValue) (s : Server) → Covers l m → AgreesAt c l ns s → AgreesAt c m ns s
 agrees_covers c l m ns s (same e) x = subst (λ (z : Line). AgreesAt c z ns s) (sym e) x
@@ -259,6 +260,8 @@ module _ {S : Type 0} (r : run.Server S) where
         let whole : (before ++ n ∷ sending) ++ notes_of x.steps ≡ before ++ n ∷ (sending ++ notes_of x.steps) = append_assoc before (n ∷ sending) (notes_of x.steps) in
         record {
           tells = does.net.net.tells ∙ agrees.tells;
+          took = λ d. subst (λ (z : List NoteValue). took_sum d z ≤ length (b.net.taken d)) whole
+              (took_after d (before ++ n ∷ sending) (notes_of x.steps) a.net b.net does.net agrees.tells (agrees.took d));
           told = told_is (before ++ n ∷ sending) (notes_of x.steps) after a.told b.told does.told agrees.told told ∙ ap (λ (z : List NoteValue). Some z) whole;
           lines = λ d.
               let bridge = event_lines r f before n e sending x.steps at out (λ c. (agrees.lines c).topics) performs d in

@@ -6,11 +6,12 @@ use Rattle.ws_kinds.specs.NoteValue.{NoteValue}
 use Rattle.run_meaning.specs.Counts.{closes}
 use Rattle.run_meaning.specs.Lines.{Line, World, is_gone_phase}
 use Rattle.hub_lines.specs.State.{Server, is_present}
-use Rattle.hub_lines.specs.Lines.{StandsFor}
+use Rattle.hub_lines.specs.Told.{took_sum}
+use Rattle.hub_lines.specs.Lines.{FairFor, StandsFor}
 use Rattle.run_meaning.specs.Orders.{unless_gone}
 use Rattle.run_meaning.specs.Bridge.{TopicsEnd}
 use Rattle.hub_notes.specs.Progress.{Progress, progress_at}
-use Rattle.hub_lines.specs.Fronts.{TakesFront}
+use Rattle.hub_lines.specs.Fronts.{DropsFairly, TakesFront}
 use Rattle.hub_notes.specs.Fronts.{items_at}
 
 -- the code and the reason with which a connection left Open, as long as the handler was not told of it
@@ -48,9 +49,14 @@ pub record AgreesAt (conn : ℕ) (line : Line) (notes : List NoteValue) (s : Ser
   pub count : is_present s.hub conn ≡ true → length line.items < 2 ^ 64 - 1 → items_at s.hub conn ≡ length line.items
   -- of one that is gone, the link took a front of them
   pub front : is_gone_phase line.phase ≡ true → length line.items < 2 ^ 64 - 1 → TakesFront conn line.items s.net s.told
+  -- what was dropped of it was dropped fairly, also once it is gone
+  pub fair : is_present s.hub conn ≡ true → FairFor conn s line.items
+  pub drops : is_gone_phase line.phase ≡ true → length line.items < 2 ^ 64 - 1 → DropsFairly conn s.hub.config.limit line.items s.net s.told
 
 -- net and watch tell, and each connection is as this world says after these notes
 pub record Agrees {State : Type 0} (world : World State) (notes : List NoteValue) (s : Server) : Type 0 where
   pub tells : s.net.tells ≡ true
   pub told : s.told ≡ Some notes
   pub lines : (conn : ℕ) → AgreesAt conn (world.line conn) notes s
+  -- the notes tell of no more octets of a connection than its link took
+  pub took : (conn : ℕ) → took_sum conn notes ≤ length (s.net.taken conn)

@@ -4,14 +4,15 @@ ghost use Rattle.std.specs.Prelude.{◌≡◌, ◌≢◌, ◌<◌, ◌-◌, ◌^
 ghost use Rattle.std.specs.List.{list_all, list_any};
 ghost use Rattle.ws_kinds.specs.declared.note.Phase.{Phase};
 ghost use Rattle.ws_kinds.specs.ConfigValue.{ConfigValue};
-ghost use Rattle.ws_kinds.specs.NoteValue.{NoteValue, accepted, closed};
+ghost use Rattle.ws_kinds.specs.NoteValue.{NoteValue, accepted, closed, dropped};
 ghost use Rattle.ws_kinds.specs.EventValue.{EventValue};
 ghost use Rattle.ws_kinds.specs.OrderValue.{OrderValue};
 ghost use Rattle.wire_meaning.specs.Answer.{Item, reply};
 ghost use Rattle.run_meaning.specs.Notes.{is_acceptance};
 ghost use Rattle.run_meaning.specs.Counts.{accepted_by, closes, gather, is_accepted};
 ghost use Rattle.run_meaning.specs.Server.{Server as Meaning};
-ghost use Rattle.run_meaning.specs.Lines.{Line, World, noted, noted_all, orders_of, unknown, first_world, world, plain};
+ghost use Rattle.run_meaning.specs.Lines.{Line, World, noted, noted_all, orders_of, unknown, first_world, world, phase, plain};
+ghost use Rattle.run_meaning.specs.Fair.{IsFair};
 ghost use Rattle.run_meaning.specs.Orders.{Ordered, event_at, standings, why_at};
 ghost use Rattle.run_meaning.specs.Steps.{Step, notes_of, line_by_all};
 ghost use Rattle.run_meaning.specs.Performs.{is_outgoing};
@@ -88,6 +89,14 @@ pub fn after_a_closed_event<H: Handler>()
 pub fn carried<H: Handler>()
     ensures { (meaning : Meaning H.State) (notes : List NoteValue) (s : Server) → Agrees (world meaning notes) notes s → Settled s.hub →
         (conn : ℕ) → length (plain meaning notes conn) < 2 ^ 64 - 1 → is_accepted conn notes ≡ true → Carried meaning notes conn (s.net.taken conn) (ring_at s.hub conn) }
+{}
+
+/// Each item that was dropped of a connection was dropped fairly, whether or not it is gone. This counts as long as the count of
+/// its items is below its end.
+pub fn drops_are_fair<H: Handler>()
+    ensures { (meaning : Meaning H.State) (config : ConfigValue) (notes : List NoteValue) (s : Server) → Agrees (world meaning notes) notes s → s.hub.config ≡ config →
+        (before rest : List NoteValue) (conn index held : ℕ) → notes ≡ before ++ dropped conn index held ∷ rest → phase meaning notes conn ≢ None →
+        length (plain meaning notes conn) < 2 ^ 64 - 1 → IsFair config.limit (plain meaning notes conn) before conn index held }
 {}
 
 /// The hub has for each connection the phase that its notes say, but that one which is gone may have none. So it finds the

@@ -15,9 +15,10 @@ pub use Rattle.route_table.specs.All.{RouteTable}
 pub use Rattle.upgrade_head.specs.All.{FieldList, fields_of, head_end, Judged, JudgedHead, Verdict, admit, answer_text, asks_to_upgrade, by_key, by_path, has_version, is_get, more, path_of, refuse, route_of, unended, key_of}
 pub use Rattle.run_meaning.specs.Bridge.{Covers, TopicsEnd}
 pub use Rattle.run_meaning.specs.Bridge.Covers.{same}
-pub use Rattle.run_meaning.specs.Counts.{accepted_by, closed_by, closes, dropped_by, drops as dropped_of, drops, gather, given, given_by, has_number, is_accepted, is_gone_by_in, is_gone_in, number_of, only_if, taken, taken_by, took_by, total, writes}
+pub use Rattle.run_meaning.specs.Counts.{accepted_by, closed_by, closes, dropped_by, drops as dropped_of, drops, ends_short, gather, given, given_by, has_number, is_accepted, is_gone_by_in, is_gone_in, number_of, only_if, taken, taken_by, took_by, total, writes}
 pub use Rattle.run_meaning.specs.Echo.{EchoLine, echo_after, echo_by, echo_lines, echo_own, echo_said, echo_server, echo_start, echo_view, sent_back}
 pub use Rattle.run_meaning.specs.Events.{events, events_from, one_or_none, state_after}
+pub use Rattle.run_meaning.specs.Fair.{Fair, IsFair}
 pub use Rattle.run_meaning.specs.Kept.{kept, kept_of, without}
 pub use Rattle.run_meaning.specs.Life.{Carried, Carries, Heard, IsLife, Lived, LivedThroughout, Reaches, first_frames, frames_in, heard, heard_by, is_frame_heard, last_frame, life_by, opened, read, refused, to_hear}
 pub use Rattle.run_meaning.specs.Lines.{Line, World, after_own, answered, appended, cause_of, close_frame, closed_by_server, closing, conns_after, data_frame, event_of, first_world, is_frame, is_gone_phase, is_naming, is_open, is_refused, is_still, is_subscribed, leaves_alone, leaves_open, line_after, moved, noted, noted_all, obey, obeyed, orders_of, param_after, perform, phase, plain, put, route_after, run, sends, serve, step, topics_left, unknown, world}
@@ -34,7 +35,8 @@ pub use Rattle.run_meaning.specs.Replies.{AreAdmitted, AreReplies, HasReplies, i
 pub use Rattle.run_meaning.specs.Right.{NoneDue, Right, RightRun, Sound, entries, is_arrival, is_busy, is_entry, is_from_outside, may_follow_gone}
 pub use Rattle.run_meaning.specs.Server.{Server as Meaning, Server, every_topic, served_by}
 pub use Rattle.run_meaning.specs.Serving.{Serving}
-pub use Rattle.run_meaning.specs.Settled.{Held, LeftAtEnd, Settled, is_ending, is_last_note, is_reading, is_sudden}
+pub use Rattle.run_meaning.specs.Settled.{BetweenTurns, Held, IsTurn, LeftAtEnd, Settled, is_ending, is_last_note, is_reading, is_sudden}
+pub use Rattle.run_meaning.specs.Settled.BetweenTurns.{after_turn, at_first}
 pub use Rattle.run_meaning.specs.Steps.{Step, appended_by, by_note, by_order, frames_of, is_for, items_by, items_of, line_by, line_by_all, notes_of, of_notes, standing_after, standing_after_all, standing_by, standing_obeys, standings_after}
 pub use Rattle.run_meaning.specs.Tell.{Tell, at_turn, has_news, is_telling, is_told, marked, nothing_told, one_dropped, tell_by, tell_by_all}
 pub use Rattle.run_meaning.specs.Told.{AreTold, IsToldRight, ToldRight, has_to_tell, held_after, tell, tell_from, tell_noted}

@@ -3,6 +3,7 @@ pub mod Counts
 pub mod Server
 pub mod Lines
 pub mod Kept
+pub mod Fair
 pub mod Orders
 pub mod Serving
 pub mod Events

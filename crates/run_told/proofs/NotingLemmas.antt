@@ -1,5 +1,5 @@
 -- What a hub handed out is noted as told.
-use Rattle.run_told.proofs.Below.{◌≡◌, ℕ, List, [], ◌∷◌, Option, Some, Bool, true, false, cond, ◌&&◌, nat_eq, refl, sym, ap, ◌∙◌, subst, Phase, Head, Open, Leaving, Ending, Gone, NoteValue, IsNoted, by_cases, clash, and_left, equal_is, no_more, NetState, is_open, unless_gone, has_news, HubState, server, entry_at, is_present, ring_at, is_dropped, nothing, keeps_note, short_silent, is_dropped_note, split_told, Appends, KeepsFront, items_at, NetAfter, FailsAfter, progress_at, progress_by, progress_after, may_come, standings_at, topics_at, due_at, tell_at, appends_after_nothing, net_same, fails_same, told_one, TellsNext, TakesTold}
+use Rattle.run_told.proofs.Below.{◌≡◌, ℕ, List, [], ◌∷◌, Option, Some, Bool, true, false, cond, ◌&&◌, nat_eq, refl, sym, ap, ◌∙◌, subst, Phase, Head, Open, Leaving, Ending, Gone, NoteValue, IsNoted, by_cases, clash, and_left, equal_is, no_more, NetState, is_open, unless_gone, has_news, HubState, server, entry_at, is_present, ring_at, nothing, keeps_note, short_silent, split_told, Appends, KeepsFront, SameDrops, fairly_later, items_at, NetAfter, FailsAfter, progress_at, progress_by, progress_after, may_come, standings_at, topics_at, due_at, tell_at, appends_after_nothing, net_same, fails_same, told_one, TellsNext, TakesTold}
 use Rattle.ws_kinds.specs.NoteValue as note
 use Rattle.run_told.proofs.PhaseLemmas.{open_is}
 
@@ -46,6 +46,9 @@ told_fails : (c d : ℕ) (b : Bool) (net : NetState) → FailsAfter (note.told c
 told_fails c d b net = let x = fails_same net in record { broken = x.broken; faults = x.faults }
 
 module _ (h : HubState) (net : NetState) (t t' : Option (List NoteValue)) (c d : ℕ) (b : Bool) (noted : IsNoted t (note.told c d b) t') where
+  drops_nothing : (e : ℕ) → SameDrops e t t'
+  drops_nothing e notes now = let q = split_told t t' (note.told c d b) notes noted now in (q.0, note.told c d b ∷ [], q.1, q.2, λ i. refl)
+
   told_front : (e : ℕ) → KeepsFront e [] (server h net t) (server h net t')
   told_front e = record {
     tells = refl;
@@ -53,10 +56,9 @@ module _ (h : HubState) (net : NetState) (t t' : Option (List NoteValue)) (c d :
     count = λ there few. no_more (items_at h e);
     front = λ there away few items stands. clash (is_present h e) away there;
     taken = λ away. refl;
-    drops = λ away old new was now index.
-        let q = split_told t t' (note.told c d b) new noted now in
-        let same : q.0 ≡ old = let z : Some q.0 ≡ Some old = sym q.1 ∙ was in cc in
-        ap (λ (z : List NoteValue). is_dropped e z index) q.2 ∙ is_dropped_note e q.0 (note.told c d b) index refl ∙ ap (λ (z : List NoteValue). is_dropped e z index) same;
+    drops = λ away. drops_nothing e;
+    fair = λ there away few items stands fair. clash (is_present h e) away there;
+    stays = λ away limit items. fairly_later e limit items net net t t' refl (drops_nothing e);
   }
 
   told_appends : Appends nothing (server h net t) (server h net t')

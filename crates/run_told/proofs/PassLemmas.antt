@@ -1,11 +1,11 @@
 -- The handler is told of one connection after another.
-use Rattle.run_told.proofs.Below.{◌≡◌, ◌≢◌, ◌⊎◌, inl, inr, ⊎_elim, ◌<◌, ◌≤◌, ◌+◌, ℕ, List, [], ◌∷◌, ◌++◌, Option, Some, Bool, true, false, cond, not, is_some, ◌&&◌, ◌||◌, nat_eq, nat_lt, refl, sym, ap, ◌∙◌, subst, arith, append_cancel_left, list_any, Phase, ConfigValue, NoteValue, OrderValue, AreNoted, by_cases, clash, and_left, less_is, not_less_is, unequal_is, is_accepted, is_open, phase, world, is_of, is_turn, Step, notes_of, of_notes, Tell, has_news, is_told, AreTold, tell, list_any-append, notes_of-notes, HubState, entry_at, is_present, present_entry, Advances, Does, Progress, may_all_come, may_all_step, may_come, progress_after, progress_at, progress_by_steps, standings_at, ServesAll, IsTable, table_of, TellsBy, tell_at, notes_step, told_then, told_none, unaccepted, Agrees, is_early, rests_of, orders_unaccepting, TellsAll, TellsBut, TellsTo, is_told_or_left, Tellings, TellsNext, NoneToTell, news_at}
+use Rattle.run_told.proofs.Below.{◌≡◌, ◌≢◌, ◌⊎◌, inl, inr, ⊎_elim, ◌<◌, ◌≤◌, ◌+◌, ℕ, List, [], ◌∷◌, ◌++◌, Option, Some, Bool, true, false, cond, not, is_some, ◌&&◌, ◌||◌, nat_eq, nat_lt, refl, sym, ap, ◌∙◌, subst, arith, append_cancel_left, list_any, Phase, NoteValue, AreNoted, by_cases, clash, and_left, less_is, not_less_is, unequal_is, is_accepted, is_open, phase, world, is_of, is_turn, Step, notes_of, of_notes, Tell, has_news, is_told, AreTold, tell, list_any-append, notes_of-notes, HubState, entry_at, is_present, present_entry, Advances, Does, Progress, may_all_come, may_all_step, may_come, progress_after, progress_at, progress_by_steps, standings_at, IsTable, table_of, TellsBy, tell_at, notes_step, told_then, told_none, Agrees, is_early, rests_of, KeepsOwed, TellsAll, TellsBut, TellsTo, is_told_or_left, Tellings, TellsNext, NoneToTell, news_at}
 use Rattle.ws_kinds.specs.NoteValue as note
 use Rattle.run_meaning.specs.Server as run
 use Rattle.hub_lines.specs.State.{Server}
 use Rattle.run_told.proofs.OwingLemmas.{Owes, done_first, done_later, steps_late, steps_owe}
 use Rattle.run_told.proofs.PhaseLemmas.{early_shown, open_is, present_shown}
-use Rattle.run_told.proofs.TellingLemmas.{news_is, served_of_orders, served_turnless}
+use Rattle.run_told.proofs.TellingLemmas.{news_is}
 
 -- ---- what a call does
 
@@ -35,10 +35,6 @@ call_moves ns a b x named new = record {
 steps_move : (texts : ℕ → List ℕ) (xs : List Step) (a b : Server) → Does texts xs a b → ((c : ℕ) → c ≤ a.hub.named → is_accepted c (notes_of xs) ≡ false) → Moves xs a b
 steps_move texts xs a b x new = record { told = x.told; may_come = x.may_come; progress = x.progress; tells = x.tells; named = x.appends.lines.named; new = new }
 
-orders_move : (f : ConfigValue) (admits : List ℕ → Bool) (from number : ℕ) (os : List OrderValue) (a b : Server) (x : ServesAll f admits from number os a b) → Moves x.steps a b
-orders_move f admits from number os a b x =
-    steps_move (λ _. []) x.steps a b (x.does (λ _. [])) (λ c low. unaccepted (notes_of x.steps) c (orders_unaccepting (notes_of x.steps) (served_of_orders f admits from number os a b x)))
-
 module _ (xs : List Step) (a b : Server) (x : Moves xs a b) where
   -- who is past Open does not come back
   moves_late : (c : ℕ) → c ≤ a.hub.named → is_early (standings_at a.hub c).phase ≡ false → is_early (standings_at b.hub c).phase ≡ false
@@ -50,6 +46,30 @@ module _ (xs : List Step) (a b : Server) (x : Moves xs a b) where
       subst (λ (z : Progress). Owes told z.phase (tell_at b.hub c)) (sym (x.progress c))
       (subst (λ (z : Tell). Owes told (progress_by_steps c xs (progress_at a.hub c)).phase z) (sym (x.tells turnless c))
       (steps_owe c xs (progress_at a.hub c) (tell_at a.hub c) (x.may_come c) (x.new c low) news))
+
+  moves_owed : (turns : ℕ) → (turns ≡ 0 → list_any is_turn (notes_of xs) ≡ false) → KeepsOwed turns a b
+  moves_owed turns turnless = record { made = notes_of xs; told = x.told; named = x.named; late = moves_late; owed = λ none. moves_owe (turnless none) }
+
+-- ---- what the handler is owed
+
+pub owed_call : (turns : ℕ) (ms : List NoteValue) (a b : Server) → Advances ms a b → (turns ≡ 0 → list_any is_turn ms ≡ false) → a.hub.named ≤ b.hub.named → ((c : ℕ) → c ≤ a.hub.named → is_accepted c ms ≡ false) → KeepsOwed turns a b
+owed_call turns ms a b x turnless named new = moves_owed (of_notes ms) a b (call_moves ms a b x named new) turns (λ none. ap (list_any is_turn) (notes_of-notes ms) ∙ turnless none)
+
+pub owed_steps : (texts : ℕ → List ℕ) (xs : List Step) (a b : Server) → Does texts xs a b → list_any is_turn (notes_of xs) ≡ false → ((c : ℕ) → c ≤ a.hub.named → is_accepted c (notes_of xs) ≡ false) → KeepsOwed 0 a b
+owed_steps texts xs a b x turnless new = moves_owed xs a b (steps_move texts xs a b x new) 0 (λ _. turnless)
+
+pub owed_aside : (ms : List NoteValue) (a b : Server) → AreNoted a.told ms b.told → a.hub.named ≤ b.hub.named → ((c : ℕ) → (standings_at b.hub c).phase ≡ (standings_at a.hub c).phase)
+    → ((c : ℕ) → tell_at b.hub c ≡ tell_at a.hub c) → KeepsOwed 0 a b
+owed_aside ms a b told named phases tells = record {
+  made = ms;
+  told = told;
+  named = named;
+  late = λ c low late. ap is_early (phases c) ∙ late;
+  owed = λ _ c low news. inr (ap (λ (z : Option Phase). is_open z && has_news (tell_at b.hub c)) (phases c) ∙ ap (λ (z : Tell). is_open (standings_at a.hub c).phase && has_news z) (tells c) ∙ news);
+}
+
+pub owed_same : (s : Server) → KeepsOwed 0 s s
+owed_same s = owed_aside [] s s (told_none s.told) (omega arith) (λ c. refl) (λ c. refl)
 
 -- ---- after more notes
 
@@ -96,14 +116,6 @@ none_zero s table = by_cases (news_at s.hub 0)
 positive : (c : ℕ) → c ≢ 0 → 0 < c
 positive c other = omega arith
 
-pub pass_starts : (s : Server) → IsTable (table_of s.hub) → TellsTo 0 s s
-pass_starts s table = record {
-  made = [];
-  told = told_none s.told;
-  named = omega arith;
-  all = λ c low news. inr (positive c (λ e. clash (news_at s.hub c) (ap (news_at s.hub) e ∙ none_zero s table) news), news);
-}
-
 pub pass_ends : (n : ℕ) (a b : Server) → TellsTo n a b → NoneToTell n b.hub → TellsAll a b
 pass_ends n a b x none = record { made = x.made; told = x.told; named = x.named; all = λ c low news. one c (x.all c low news) }
   where
@@ -111,11 +123,22 @@ pass_ends n a b x none = record { made = x.made; told = x.told; named = x.named;
     one c (inl done) = inl done
     one c (inr still) = clash (news_at b.hub c) (none c still.0) still.1
 
-pass_moves : (n : ℕ) (xs : List Step) (a b d : Server) → TellsTo n a b → Moves xs b d → list_any is_turn (notes_of xs) ≡ false → TellsTo n a d
-pass_moves n xs a b d x y turnless = but_then (Above n b) (Above n d) a.hub b.hub d.hub a.told b.told d.told (notes_of xs) x y.told y.named (moves_late xs b d y) owed
+pub pass_starts : (a b : Server) → KeepsOwed 0 a b → IsTable (table_of b.hub) → TellsTo 0 a b
+pass_starts a b x table = record {
+  made = x.made;
+  told = x.told;
+  named = x.named;
+  all = λ c low news. ⊎_elim
+      (λ (done : is_told_or_left c x.made b.hub ≡ true). inl done)
+      (λ (still : news_at b.hub c ≡ true). inr (positive c (λ e. clash (news_at b.hub c) (ap (news_at b.hub) e ∙ none_zero b table) still), still))
+      (x.owed refl c low news);
+}
+
+pub pass_more : (n : ℕ) (a b d : Server) → TellsTo n a b → KeepsOwed 0 b d → TellsTo n a d
+pass_more n a b d x y = but_then (Above n b) (Above n d) a.hub b.hub d.hub a.told b.told d.told y.made x y.told y.named y.late owed
   where
-    owed : (c : ℕ) → c ≤ b.hub.named → Above n b c → (is_told_or_left c (notes_of xs) d.hub ≡ true) ⊎ Above n d c
-    owed c low still = ⊎_elim (λ (done : is_told_or_left c (notes_of xs) d.hub ≡ true). inl done) (λ (news : news_at d.hub c ≡ true). inr (still.0, news)) (moves_owe xs b d y turnless c low still.1)
+    owed : (c : ℕ) → c ≤ b.hub.named → Above n b c → (is_told_or_left c y.made d.hub ≡ true) ⊎ Above n d c
+    owed c low still = ⊎_elim (λ (done : is_told_or_left c y.made d.hub ≡ true). inl done) (λ (news : news_at d.hub c ≡ true). inr (still.0, news)) (y.owed refl c low still.1)
 
 pub pass_next : (n conn dropped : ℕ) (drained : Bool) (a b d : Server) → TellsTo n a b → TellsNext n conn dropped drained b d → TellsTo conn a d
 pass_next n conn dropped drained a b d x next = but_then (Above n b) (Above conn d) a.hub b.hub d.hub a.told b.told d.told ms x y.told y.named (moves_late (of_notes ms) b d y) owed
@@ -136,37 +159,28 @@ pass_next n conn dropped drained a b d x next = but_then (Above n b) (Above conn
         (λ (news : news_at d.hub c ≡ true). inr (let far = not_less_is c conn above in let ne = unequal_is conn c other in omega arith, news))
         (moves_owe (of_notes ms) b d y refl c low still.1)))
 
-pub pass_call : (n : ℕ) (ms : List NoteValue) (a b d : Server) → TellsTo n a b → Advances ms b d → list_any is_turn ms ≡ false → b.hub.named ≤ d.hub.named → ((c : ℕ) → c ≤ b.hub.named → is_accepted c ms ≡ false) → TellsTo n a d
-pass_call n ms a b d x adv turnless named new = pass_moves n (of_notes ms) a b d x (call_moves ms b d adv named new) (ap (list_any is_turn) (notes_of-notes ms) ∙ turnless)
+-- after the pass
+pub pass_lasts : (turns : ℕ) (a b d : Server) → TellsAll a b → KeepsOwed turns b d → TellsAll a d
+pass_lasts turns a b d x y = but_then Nobody Nobody a.hub b.hub d.hub a.told b.told d.told y.made x y.told y.named y.late (λ c low never. inr never)
 
-pub pass_steps : (n : ℕ) (texts : ℕ → List ℕ) (xs : List Step) (a b d : Server) → TellsTo n a b → Does texts xs b d → list_any is_turn (notes_of xs) ≡ false → ((c : ℕ) → c ≤ b.hub.named → is_accepted c (notes_of xs) ≡ false) → TellsTo n a d
-pass_steps n texts xs a b d x does turnless new = pass_moves n xs a b d x (steps_move texts xs b d does new) turnless
+no_turns : (m n : ℕ) → m + n ≡ 0 → (m ≡ 0) × (n ≡ 0)
+no_turns m n e = (omega arith, omega arith)
 
-pub pass_orders : (n : ℕ) (f : ConfigValue) (admits : List ℕ → Bool) (from number : ℕ) (os : List OrderValue) (a b d : Server) → TellsTo n a b → ServesAll f admits from number os b d → TellsTo n a d
-pass_orders n f admits from number os a b d x y = pass_moves n y.steps a b d x (orders_move f admits from number os b d y) (served_turnless f admits from number os b d y)
-
-pub pass_aside : (n : ℕ) (ms : List NoteValue) (a b d : Server) → TellsTo n a b → AreNoted b.told ms d.told → b.hub.named ≤ d.hub.named → ((c : ℕ) → (standings_at d.hub c).phase ≡ (standings_at b.hub c).phase)
-    → ((c : ℕ) → tell_at d.hub c ≡ tell_at b.hub c) → TellsTo n a d
-pass_aside n ms a b d x told named phases tells =
-    but_then (Above n b) (Above n d) a.hub b.hub d.hub a.told b.told d.told ms x told named (λ c low late. ap is_early (phases c) ∙ late)
-    (λ c low still. inr (still.0, ap (λ (z : Option Phase). is_open z && has_news (tell_at d.hub c)) (phases c) ∙ ap (λ (z : Tell). is_open (standings_at b.hub c).phase && has_news z) (tells c) ∙ still.1))
-
--- ---- after the pass
-
-all_moves : (xs : List Step) (a b d : Server) → TellsAll a b → Moves xs b d → TellsAll a d
-all_moves xs a b d x y = but_then Nobody Nobody a.hub b.hub d.hub a.told b.told d.told (notes_of xs) x y.told y.named (moves_late xs b d y) (λ c low never. inr never)
-
-pub all_call : (ms : List NoteValue) (a b d : Server) → TellsAll a b → Advances ms b d → b.hub.named ≤ d.hub.named → ((c : ℕ) → c ≤ b.hub.named → is_accepted c ms ≡ false) → TellsAll a d
-all_call ms a b d x adv named new = all_moves (of_notes ms) a b d x (call_moves ms b d adv named new)
-
-pub all_steps : (texts : ℕ → List ℕ) (xs : List Step) (a b d : Server) → TellsAll a b → Does texts xs b d → ((c : ℕ) → c ≤ b.hub.named → is_accepted c (notes_of xs) ≡ false) → TellsAll a d
-all_steps texts xs a b d x does new = all_moves xs a b d x (steps_move texts xs b d does new)
-
-pub all_orders : (f : ConfigValue) (admits : List ℕ → Bool) (from number : ℕ) (os : List OrderValue) (a b d : Server) → TellsAll a b → ServesAll f admits from number os b d → TellsAll a d
-all_orders f admits from number os a b d x y = all_moves y.steps a b d x (orders_move f admits from number os b d y)
-
-pub all_aside : (ms : List NoteValue) (a b d : Server) → TellsAll a b → AreNoted b.told ms d.told → b.hub.named ≤ d.hub.named → ((c : ℕ) → (standings_at d.hub c).phase ≡ (standings_at b.hub c).phase) → TellsAll a d
-all_aside ms a b d x told named phases = but_then Nobody Nobody a.hub b.hub d.hub a.told b.told d.told ms x told named (λ c low late. ap is_early (phases c) ∙ late) (λ c low never. inr never)
+-- one after another
+pub owed_then : (m n : ℕ) (a b d : Server) → KeepsOwed m a b → KeepsOwed n b d → KeepsOwed (m + n) a d
+owed_then m n a b d x y = record {
+  made = x.made ++ y.made;
+  told = told_then a.told b.told d.told x.made y.made x.told y.told;
+  named = let u = x.named in let v = y.named in omega arith;
+  late = λ c low late. y.late c (let u = x.named in omega arith) (x.late c low late);
+  owed = λ none c low news.
+      let u = no_turns m n none in
+      one (Still b) (Still d) a.hub b.hub d.hub a.told b.told d.told y.made (record { made = x.made; told = x.told; named = x.named; all = x.owed u.0 }) y.told y.named y.late (y.owed u.1) c (let u = x.named in omega arith)
+      (x.owed u.0 c low news);
+}
+  where
+    Still : Server → ℕ → Type 0
+    Still s c = news_at s.hub c ≡ true
 
 -- ---- by the notes
 

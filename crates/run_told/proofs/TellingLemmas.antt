@@ -1,5 +1,5 @@
 -- What a hub has to tell beside what its notes say, and what the handler was told.
-use Rattle.run_told.proofs.Below.{◌≡◌, ◌<◌, ◌+◌, ◌-◌, ◌^◌, ℕ, List, [], ◌∷◌, ◌++◌, Option, Bool, true, false, cond, not, is_some, ◌&&◌, length, refl, sym, ap, ◌∙◌, subst, append-nil, append_assoc, length-append, arith, or-true, list_all, list_any, Phase, ConfigValue, NoteValue, OrderValue, by_cases, clash, all_spelled, taken, drops, is_accepted, is_turn, kept, kept_of, Carries, World, is_open, is_gone_phase, phase, plain, world, is_away, is_outgoing, notes_of, Tell, has_news, at_turn, tell_by_all, is_telling, tell, held_after, has_to_tell, IsToldRight, ToldRight, place_of, place_of_one, drops-append, taken-append, list_any-append, early, late, old, new, all_follow, none_follow, none_then, world_plain, open_shown, HubState, TellingValue, entry_at, is_present, ring_at, Settled, Proceeds, standings_at, ServesAll, TellsBy, EndsTelling, held_in, tell_at, tell_of, EndsTurn, finishes, Agrees, is_of_orders, rests_of, agrees_carried, orders_notes, outgoing_of_orders, phase_some, Tellings, HoldsAs, IsNextTold, news_at}
+use Rattle.run_told.proofs.Below.{◌≡◌, ◌<◌, ◌+◌, ◌-◌, ◌^◌, ℕ, List, [], ◌∷◌, ◌++◌, Option, Bool, true, false, cond, not, is_some, ◌&&◌, length, refl, sym, ap, ◌∙◌, subst, append-nil, append_assoc, length-append, arith, or-true, list_all, list_any, Phase, ConfigValue, NoteValue, OrderValue, by_cases, clash, all_spelled, taken, drops, is_accepted, is_turn, kept, kept_of, Carries, World, is_open, is_gone_phase, phase, plain, world, is_away, is_outgoing, notes_of, Tell, has_news, at_turn, tell_by_all, is_telling, tell, held_after, has_to_tell, IsToldRight, ToldRight, place_of, place_of_one, drops-append, taken-append, list_any-append, early, late, old, new, all_follow, none_follow, none_then, world_plain, open_shown, HubState, TellingValue, entry_at, is_present, ring_at, Settled, Proceeds, standings_at, ServesAll, TellsBy, EndsTelling, held_in, tell_at, tell_of, EndsTurn, finishes, Agrees, is_of_orders, rests_of, agrees_carried, orders_notes, outgoing_of_orders, phase_some, IsTold, TellsNext, Tellings, HoldsAs, IsNextTold, news_at}
 use Rattle.ws_kinds.specs.NoteValue as note
 use Rattle.run_meaning.specs.Server as run
 use Rattle.hub_lines.specs.State.{Server}
@@ -25,9 +25,13 @@ orders_silent ns e = none_follow is_of_orders is_telling one ns e
 sent_of_orders : (ns : List NoteValue) → list_all is_outgoing ns ≡ true → list_all is_of_orders ns ≡ true
 sent_of_orders ns e = all_follow is_outgoing is_of_orders outgoing_of_orders ns e
 
-finishes_turnless : (cs : List ℕ) → list_any is_turn (finishes cs) ≡ false
+pub finishes_turnless : (cs : List ℕ) → list_any is_turn (finishes cs) ≡ false
 finishes_turnless [] = refl
 finishes_turnless (c ∷ cs) = finishes_turnless cs
+
+pub finishes_silent : (cs : List ℕ) → list_any is_telling (finishes cs) ≡ false
+finishes_silent [] = refl
+finishes_silent (c ∷ cs) = finishes_silent cs
 
 module _ (f : ConfigValue) (admits : List ℕ → Bool) (from number : ℕ) (os : List OrderValue) (a b : Server) (x : ServesAll f admits from number os a b) where
   pub served_of_orders : list_all is_of_orders (notes_of x.steps) ≡ true
@@ -162,3 +166,32 @@ module _ {S : Type 0} (r : run.Server S) where
             subst (λ (z : List NoteValue). IsToldRight r z c d b) (sym p)
             (subst (λ (z : ℕ). IsToldRight r ns z d b) i (subst (λ (z : ℕ). IsToldRight r ns conn z b) j (subst (λ (z : Bool). IsToldRight r ns conn dropped z) k now)))
       ]
+
+  -- ---- both
+
+  pub told_first : (h : HubState) → h.tellings ≡ [] → IsTold r [] h
+  told_first h none = record { tellings = tellings_first h none; right = right_first }
+
+  pub told_call : (ns ms : List NoteValue) (h k : HubState) → list_any is_turn ms ≡ false → list_any is_telling ms ≡ false → TellsBy ms h k → IsTold r ns h → IsTold r (ns ++ ms) k
+  told_call ns ms h k turnless silent by x = record { tellings = tellings_call ns ms h k turnless by x.tellings; right = right_more ns ms silent x.right }
+
+  pub told_proceed : (ns first last : List NoteValue) (a b : Server) (x : Proceeds first last a b) → list_any is_turn first ≡ false → list_any is_turn last ≡ false → list_any is_telling first ≡ false → list_any is_telling last ≡ false
+      → IsTold r ns a.hub → IsTold r (ns ++ (first ++ (x.sending ++ last))) b.hub
+  told_proceed ns first last a b x e g f h t = record { tellings = tellings_proceed ns first last a b x e g t.tellings; right = right_proceed ns first last a b x f h t.right }
+
+  pub told_orders : (ns : List NoteValue) (f : ConfigValue) (admits : List ℕ → Bool) (from number : ℕ) (os : List OrderValue) (a b : Server) (x : ServesAll f admits from number os a b) → IsTold r ns a.hub
+      → IsTold r (ns ++ notes_of x.steps) b.hub
+  told_orders ns f admits from number os a b x t = record { tellings = tellings_orders ns f admits from number os a b x t.tellings; right = right_orders ns f admits from number os a b x t.right }
+
+  pub told_next : (ns : List NoteValue) (after c d : ℕ) (b : Bool) (s t : Server) → Agrees (world r ns) ns s → TellsNext after c d b s t → IsTold r ns s.hub → IsTold r (ns ++ note.told c d b ∷ []) t.hub
+  told_next ns after c d b s t x next told = record {
+    tellings = tellings_call ns (note.told c d b ∷ []) s.hub t.hub refl next.makes.advances.tells told.tellings;
+    right = right_told ns c d b (next_right ns after c d b s x told.tellings next.next) told.right;
+  }
+
+  pub told_end : (ns : List NoteValue) (a b : Server) (x : EndsTurn a b) → HoldsAs r (ns ++ (x.proceeds.sending ++ (finishes x.finished ++ note.turn ∷ []))) b.hub → IsTold r ns a.hub
+      → IsTold r (ns ++ (x.proceeds.sending ++ (finishes x.finished ++ note.turn ∷ []))) b.hub
+  told_end ns a b x holds told = record {
+    tellings = tellings_end ns a b x holds told.tellings;
+    right = right_proceed ns [] (finishes x.finished ++ note.turn ∷ []) a b x.proceeds refl (none_then is_telling (finishes x.finished) (note.turn ∷ []) (finishes_silent x.finished) refl) told.right;
+  }

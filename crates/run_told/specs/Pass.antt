@@ -1,5 +1,5 @@
 -- As a turn begins, the handler is told of each connection that has something to tell, in ascending order.
-use Rattle.std.specs.Prelude.{◌≡◌, ◌⊎◌, ◌<◌, ◌≤◌, ℕ, List, Option, Bool, true, not, ◌||◌}
+use Rattle.std.specs.Prelude.{◌≡◌, ◌⊎◌, ◌<◌, ◌≤◌, ℕ, List, Option, Bool, true, false, not, ◌||◌}
 use Rattle.std.specs.List.{list_any}
 use Rattle.ws_kinds.specs.NoteValue.{NoteValue}
 use Rattle.ws_kinds.specs.Watch.{AreNoted}
@@ -28,3 +28,12 @@ TellsTo after old new = TellsBut (λ conn. (after < conn) × (news_at new.hub co
 -- none is owed
 abbrev pub TellsAll : Server → Server → Type 0
 TellsAll old new = TellsBut (λ conn. ⊥) old.hub new.hub old.told new.told
+
+-- So many turns ended. Who was past Open is so still; and where no turn ended, each connection that had something to tell was told of,
+-- or is past Open, or has it still.
+pub record KeepsOwed (turns : ℕ) (old new : Server) : Type 0 where
+  pub made : List NoteValue
+  pub told : AreNoted old.told made new.told
+  pub named : old.hub.named ≤ new.hub.named
+  pub late : (conn : ℕ) → conn ≤ old.hub.named → is_early (standings_at old.hub conn).phase ≡ false → is_early (standings_at new.hub conn).phase ≡ false
+  pub owed : turns ≡ 0 → (conn : ℕ) → conn ≤ old.hub.named → news_at old.hub conn ≡ true → (is_told_or_left conn made new.hub ≡ true) ⊎ (news_at new.hub conn ≡ true)

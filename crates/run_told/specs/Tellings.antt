@@ -3,7 +3,7 @@ use Rattle.std.specs.Prelude.{◌≡◌, ℕ, List, [], ◌∷◌, Bool}
 use Rattle.ws_kinds.specs.NoteValue as note
 use Rattle.ws_kinds.specs.NoteValue.{NoteValue}
 use Rattle.run_meaning.specs.Server as run
-use Rattle.run_meaning.specs.Told.{tell, held_after}
+use Rattle.run_meaning.specs.Told.{tell, held_after, ToldRight}
 use Rattle.hub_lines.specs.State.{HubState, Server}
 use Rattle.hub_lines.specs.Calls.{nothing}
 use Rattle.hub_notes.specs.Answers.{Makes}
@@ -18,6 +18,11 @@ Tellings meaning notes hub = (conn : ℕ) → tell_at hub conn ≡ tell meaning 
 -- and it holds as many octets as they say
 abbrev pub HoldsAs : {State : Type 0} → run.Server State → List NoteValue → HubState → Type 0
 HoldsAs meaning notes hub = (conn : ℕ) → held_after meaning notes conn ≡ held_in hub conn
+
+-- The hub has to tell what its notes say, and what the handler was told was right.
+pub record IsTold {State : Type 0} (meaning : run.Server State) (notes : List NoteValue) (hub : HubState) : Type 0 where
+  pub tellings : Tellings meaning notes hub
+  pub right : ToldRight meaning notes
 
 -- It is handed out, and noted.
 pub record TellsNext (after conn dropped : ℕ) (drained : Bool) (old new : Server) : Type 0 where

@@ -1,10 +1,8 @@
 //! The handler is told of one connection after another, as a turn begins. Each function says laws, and does nothing.
 
-ghost use Rattle.std.specs.Prelude.{◌≡◌, ◌≤◌, ℕ, List, ◌++◌, Bool, false};
+ghost use Rattle.std.specs.Prelude.{◌≡◌, ◌≤◌, ◌+◌, ℕ, List, ◌++◌, Bool, false};
 ghost use Rattle.std.specs.List.{list_any};
-ghost use Rattle.ws_kinds.specs.ConfigValue.{ConfigValue};
 ghost use Rattle.ws_kinds.specs.NoteValue.{NoteValue};
-ghost use Rattle.ws_kinds.specs.OrderValue.{OrderValue};
 ghost use Rattle.ws_kinds.specs.Watch.{AreNoted};
 ghost use Rattle.run_meaning.specs.Counts.{is_accepted};
 ghost use Rattle.run_meaning.specs.Server.{Server as Meaning};
@@ -15,51 +13,40 @@ ghost use Rattle.run_meaning.specs.Told.{AreTold};
 ghost use Rattle.hub_lines.specs.State.{Server};
 ghost use Rattle.hub_notes.specs.Calls.{Advances, Does};
 ghost use Rattle.hub_notes.specs.Progress.{standings_at};
-ghost use Rattle.hub_notes.specs.Serving.{ServesAll};
 ghost use Rattle.hub_notes.specs.Table.{IsTable, table_of};
 ghost use Rattle.hub_notes.specs.Tells.{tell_at};
 ghost use Rattle.run_laws.specs.Agrees.{Agrees};
 ghost use Rattle.run_told.specs.Tellings.{Tellings, TellsNext};
 ghost use Rattle.hub_notes.specs.NextTold.{NoneToTell};
-ghost use Rattle.run_told.specs.Pass.{TellsAll, TellsTo};
+ghost use Rattle.run_told.specs.Pass.{KeepsOwed, TellsAll, TellsTo};
 
 use ws_kinds::Handler;
 
-/// The pass begins below all connections (`starts`), goes on by the next one of which the handler is told (`next`), and ends where
-/// none above has something to tell (`ends`). Before it and within it, nobody is left out by a call that ends no turn and accepts
-/// no number again (`call`, `steps`), by the orders of an event (`orders`), and by a step that leaves the phases and what is to be
-/// told (`aside`), as the one that hands a Closed event out.
-pub fn pass_goes_on()
-    ensures starts { (s : Server) → IsTable (table_of s.hub) → TellsTo 0 s s }
-    ensures next { (after conn dropped : ℕ) (drained : Bool) (old between new : Server) → TellsTo after old between →
-        TellsNext after conn dropped drained between new → TellsTo conn old new }
-    ensures call { (after : ℕ) (made : List NoteValue) (old between new : Server) → TellsTo after old between → Advances made between new →
-        list_any is_turn made ≡ false → between.hub.named ≤ new.hub.named →
-        ((conn : ℕ) → conn ≤ between.hub.named → is_accepted conn made ≡ false) → TellsTo after old new }
-    ensures steps { (after : ℕ) (texts : ℕ → List ℕ) (steps : List Step) (old between new : Server) → TellsTo after old between →
-        Does texts steps between new → list_any is_turn (notes_of steps) ≡ false →
-        ((conn : ℕ) → conn ≤ between.hub.named → is_accepted conn (notes_of steps) ≡ false) → TellsTo after old new }
-    ensures orders { (after : ℕ) (config : ConfigValue) (admits : List ℕ → Bool) (from number : ℕ) (orders : List OrderValue)
-        (old between new : Server) → TellsTo after old between → ServesAll config admits from number orders between new → TellsTo after old new }
-    ensures aside { (after : ℕ) (made : List NoteValue) (old between new : Server) → TellsTo after old between →
-        AreNoted between.told made new.told → between.hub.named ≤ new.hub.named →
-        ((conn : ℕ) → (standings_at new.hub conn).phase ≡ (standings_at between.hub conn).phase) →
-        ((conn : ℕ) → tell_at new.hub conn ≡ tell_at between.hub conn) → TellsTo after old new }
-    ensures ends { (after : ℕ) (old new : Server) → TellsTo after old new → NoneToTell after new.hub → TellsAll old new }
+/// What the handler is owed goes on: where nothing is done (`same`), with a call that accepts no number again (`call`), with the steps of
+/// orders (`steps`), with a step that leaves the phases and what is to be told (`aside`), as the one that hands a Closed event out,
+/// and with one after another (`then`).
+pub fn owed_goes_on()
+    ensures same { (s : Server) → KeepsOwed 0 s s }
+    ensures call { (turns : ℕ) (made : List NoteValue) (old new : Server) → Advances made old new → (turns ≡ 0 → list_any is_turn made ≡ false) →
+        old.hub.named ≤ new.hub.named → ((conn : ℕ) → conn ≤ old.hub.named → is_accepted conn made ≡ false) → KeepsOwed turns old new }
+    ensures steps { (texts : ℕ → List ℕ) (steps : List Step) (old new : Server) → Does texts steps old new → list_any is_turn (notes_of steps) ≡ false →
+        ((conn : ℕ) → conn ≤ old.hub.named → is_accepted conn (notes_of steps) ≡ false) → KeepsOwed 0 old new }
+    ensures aside { (made : List NoteValue) (old new : Server) → AreNoted old.told made new.told → old.hub.named ≤ new.hub.named →
+        ((conn : ℕ) → (standings_at new.hub conn).phase ≡ (standings_at old.hub conn).phase) →
+        ((conn : ℕ) → tell_at new.hub conn ≡ tell_at old.hub conn) → KeepsOwed 0 old new }
+    ensures then { (first second : ℕ) (old between new : Server) → KeepsOwed first old between → KeepsOwed second between new → KeepsOwed (first + second) old new }
 {}
 
-/// After the pass nobody who was not told of is open again: after a call that accepts no number again, also one that ends the turn
-/// (`call`, `steps`), after the orders of an event (`orders`), and after a step that leaves the phases (`aside`).
-pub fn told_lasts()
-    ensures call { (made : List NoteValue) (old between new : Server) → TellsAll old between → Advances made between new →
-        between.hub.named ≤ new.hub.named → ((conn : ℕ) → conn ≤ between.hub.named → is_accepted conn made ≡ false) → TellsAll old new }
-    ensures steps { (texts : ℕ → List ℕ) (steps : List Step) (old between new : Server) → TellsAll old between → Does texts steps between new →
-        ((conn : ℕ) → conn ≤ between.hub.named → is_accepted conn (notes_of steps) ≡ false) → TellsAll old new }
-    ensures orders { (config : ConfigValue) (admits : List ℕ → Bool) (from number : ℕ) (orders : List OrderValue) (old between new : Server) →
-        TellsAll old between → ServesAll config admits from number orders between new → TellsAll old new }
-    ensures aside { (made : List NoteValue) (old between new : Server) → TellsAll old between → AreNoted between.told made new.told →
-        between.hub.named ≤ new.hub.named → ((conn : ℕ) → (standings_at new.hub conn).phase ≡ (standings_at between.hub conn).phase) →
-        TellsAll old new }
+/// The pass begins below all connections (`starts`), goes on by the next one of which the handler is told (`next`), and by what else is
+/// done before the next one (`more`), and ends where none above has something to tell (`ends`). After it nobody who was not told of
+/// is open again, also after the turn has ended (`lasts`).
+pub fn pass_goes_on()
+    ensures starts { (old new : Server) → KeepsOwed 0 old new → IsTable (table_of new.hub) → TellsTo 0 old new }
+    ensures next { (after conn dropped : ℕ) (drained : Bool) (old between new : Server) → TellsTo after old between →
+        TellsNext after conn dropped drained between new → TellsTo conn old new }
+    ensures more { (after : ℕ) (old between new : Server) → TellsTo after old between → KeepsOwed 0 between new → TellsTo after old new }
+    ensures ends { (after : ℕ) (old new : Server) → TellsTo after old new → NoneToTell after new.hub → TellsAll old new }
+    ensures lasts { (turns : ℕ) (old between new : Server) → TellsAll old between → KeepsOwed turns between new → TellsAll old new }
 {}
 
 /// By the notes: each connection that had something to tell as the turn began, and is open after it, was told of in this turn.

@@ -1,6 +1,9 @@
 //! Rows: each clause is a value that the definitions give.
 
-ghost use Rattle.std.specs.Prelude.{◌≡◌, true, false};
+ghost use Rattle.std.specs.Prelude.{◌≡◌, ℕ, [], ◌∷◌, ◌++◌, true, false};
+ghost use Rattle.ws_kinds.specs.NoteValue.{ping_got};
+ghost use Rattle.run_meaning.specs.Fair.{IsFair};
+ghost use Rattle.run_meaning.specs.Lines.{plain};
 ghost use Rattle.run_meaning.specs.Tell.{nothing_told};
 ghost use Rattle.run_meaning.specs.Told.{has_to_tell, tell};
 ghost use Rattle.run_told.specs.Rows.{begun, dropped_empty, dropped_held, emptied, emptied_told, gone, held_emptied, silent};
@@ -27,4 +30,13 @@ pub fn it_drops()
 /// Of a connection that is gone there is nothing to tell.
 pub fn it_is_gone()
     ensures { tell silent gone 1 ≡ nothing_told }
+{}
+
+/// A pong may be dropped while two octets are held and the limit is one. It may not be dropped at the limit, nor once the link took
+/// all that it was offered; and a reply may never be.
+pub fn some_drops_are_fair()
+    ensures over { IsFair 1 (plain silent dropped_held 1) (begun ++ ping_got 1 [] ∷ []) 1 1 2 }
+    ensures at_limit { IsFair 2 (plain silent dropped_held 1) (begun ++ ping_got 1 [] ∷ []) 1 1 2 → ⊥ }
+    ensures taken { (limit : ℕ) → IsFair limit (plain silent dropped_empty 1) (emptied_told ++ ping_got 1 [] ∷ []) 1 1 9 → ⊥ }
+    ensures reply { (limit : ℕ) → IsFair limit (plain silent begun 1) begun 1 0 2 → ⊥ }
 {}

@@ -5,8 +5,7 @@ use Rattle.ws_kinds.specs.declared.kind.Kind.TheVariants.{Text, Binary}
 use Rattle.wire_meaning.specs.declared.frame.Opcode.{Opcode}
 use Rattle.wire_meaning.specs.declared.frame.Opcode.TheVariants.{Begins, Close}
 use Rattle.wire_meaning.specs.Frame.{header, opcode_number}
-use Rattle.wire_meaning.specs.Answer.{Item as Sent, reply, whole, spelled}
-use Rattle.hub_lines.specs.Items.{can_drop as may_drop}
+use Rattle.wire_meaning.specs.Answer.{Item as Sent, reply, whole, spelled, can_drop as may_drop}
 use Rattle.hub_lines.specs.State.{most_held}
 use Rattle.backlog.specs.RingValue.{RingValue}
 use Rattle.frame_writer.specs.Header.{is_sent_opcode}

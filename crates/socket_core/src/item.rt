@@ -3,8 +3,7 @@
 ghost use Rattle.std.specs.Prelude.{◌≡◌, ◌≤◌, ◌+◌, ◌++◌, IsTrue, length, vec_len, vec_capacity};
 ghost use Rattle.wire_meaning.specs.Frame.{header};
 ghost use Rattle.frame_writer.specs.Header.{is_sent_opcode};
-ghost use Rattle.wire_meaning.specs.Answer.{Item as Sent, spelled};
-ghost use Rattle.hub_lines.specs.Items.{can_drop as may_drop};
+ghost use Rattle.wire_meaning.specs.Answer.{Item as Sent, spelled, can_drop as may_drop};
 ghost use Rattle.socket_core.specs.declared.item.Item.{Item as ItemValue};
 ghost use Rattle.socket_core.specs.Items.{octets_of, can_drop, IsSent, HasRoom};
 

@@ -7,7 +7,7 @@ pub use Rattle.std.specs.Str.Lossy.{error_len_after_one, error_len_after_two, se
 unfoldable pub use Rattle.std.specs.Str.Lossy.{utf8_error_len, utf8_valid_len}
 pub use Rattle.ws_kinds.specs.declared.kind.Kind.{Kind}
 pub use Rattle.ws_kinds.specs.declared.kind.Kind.TheVariants.{Binary, Text}
-pub use Rattle.wire_meaning.specs.Answer.{Item, KeepsRules, Sent, all_spelled, answers, close_body, close_item, echoed, event_of, reply as replied, reply, sent_octets, spelled, whole}
+pub use Rattle.wire_meaning.specs.Answer.{Item, KeepsRules, Sent, all_spelled, answers, can_drop, close_body, close_item, echoed, event_of, is_droppable, reply as replied, reply, sent_octets, spelled, whole}
 pub use Rattle.wire_meaning.specs.Bounds.{AreShort, CanBeTold, IsClose, IsShort, is_failure}
 pub use Rattle.wire_meaning.specs.Event.{Event, close_code, closed, closing, failed, is_last, is_sendable, message, ping, pong}
 pub use Rattle.wire_meaning.specs.Frame.{Opening, first_octet, frame, has_reserved_bit, header, header_with, is_final, is_masked, key_at, masked_frame, number_at, octets_at, opcode_number, opcode_of, opening, seven_bits, size_at, size_octets, with_key, with_size}

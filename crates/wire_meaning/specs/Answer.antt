@@ -1,5 +1,5 @@
 -- What a server sends, and what an echo sends, RFC 6455 sections 5.5 and 7; and what a client sends by the rules.
-use Rattle.std.specs.Prelude.{◌≡◌, ℕ, true, ◌==◌, if◌then◌else◌, List, [], ◌∷◌, length, flat_map, None, IsUtf8}
+use Rattle.std.specs.Prelude.{◌≡◌, ℕ, Bool, true, false, ◌==◌, if◌then◌else◌, List, [], ◌∷◌, length, flat_map, None, IsUtf8}
 use Rattle.std.specs.Int.{w16, to_be_bytes}
 use Rattle.wire_meaning.specs.declared.frame.Opcode.{Opcode}
 use Rattle.wire_meaning.specs.declared.frame.Opcode.TheVariants.{Continuation, Begins, Close, Ping, Pong, Reserved}
@@ -21,6 +21,20 @@ spelled (whole opcode payload) = frame true opcode payload
 -- the octets of these items, one after another
 abbrev pub all_spelled : List Item → List ℕ
 all_spelled items = flat_map spelled items
+
+-- frames of data, pings and pongs may be dropped
+abbrev pub is_droppable : Opcode → Bool
+is_droppable Continuation = false
+is_droppable (Begins kind) = true
+is_droppable Close = false
+is_droppable Ping = true
+is_droppable Pong = true
+is_droppable Reserved = false
+
+-- the reply to a request for the upgrade, and a close frame, are never dropped: this server's choice
+abbrev pub can_drop : Item → Bool
+can_drop (reply text) = false
+can_drop (whole opcode payload) = is_droppable opcode
 
 -- the payload of a close frame with the code alone: the code in network order, and nothing for 1005, which may not be sent (7.4.1)
 abbrev pub close_body : ℕ → List ℕ

@@ -1,5 +1,5 @@
 -- What a run over a net in memory comes to, by what the loop says of it.
-use Rattle.ws_program.proofs.Below.{◌≡◌, ◌<◌, ◌≤◌, ◌+◌, ◌-◌, ◌^◌, ℕ, List, [], ◌∷◌, ◌++◌, Option, Some, None, Bool, true, false, cond, nat_eq, map, length, refl, sym, ap, ◌∙◌, subst, arith, count_by, length-append, ConfigValue, NoteValue, RecorderState, told_by, NetEvent, Act, passes, arrivals, sent, new_link, MemNetState, FollowsSchedule, net_state, start_net, link_of, RouteTable, Head, Gone, AreReplies, HubState, server, clash, IsTable, table_of, Settled, report, AreThere, backlog_at, there_first, intake_at, Intakes, kept_at_first, Runs, Beginning, IsRight, IsSettled, IsLivedThroughout, EndsWithTurn, AreFew, KeptAll, AreViews, no_view, IntakeView, AreNotes, IsReplayed, IsReport, AreLinks, links_of, is_turn_act, CanRun, HasRun, bus_said, routes_of_bus, bus_server}
+use Rattle.ws_program.proofs.Below.{◌≡◌, ◌<◌, ◌≤◌, ◌+◌, ◌-◌, ◌^◌, ℕ, List, [], ◌∷◌, ◌++◌, Option, Some, None, Bool, true, false, cond, nat_eq, map, length, refl, sym, ap, ◌∙◌, subst, arith, count_by, length-append, ConfigValue, NoteValue, RecorderState, told_by, NetEvent, Act, passes, arrivals, sent, new_link, MemNetState, FollowsSchedule, net_state, start_net, link_of, RouteTable, Head, Gone, AreReplies, HubState, server, clash, IsTable, table_of, Settled, report, AreThere, backlog_at, there_first, intake_at, Intakes, kept_at_first, Runs, Beginning, IsRight, IsSettled, IsLivedThroughout, EndsWithTurn, AreFew, KeptAll, AreViews, no_view, IntakeView, AreNotes, IsReplayed, IsReport, AreLinks, links_of, is_turn_act, CanRun, HasRun, bus_said, routes_of_bus, bus_server, BetweenTurns, IsBetweenTurns, at_first}
 use Rattle.link_trait.specs.declared.net.NetEvent.TheVariants as event
 use Rattle.loop_runner.specs.declared.turns.Ran.TheVariants as ran
 use Rattle.ws_program.proofs.FewLemmas.{few_items}
@@ -53,11 +53,16 @@ pub views_at_first : (intakes : Intakes) → ((conn : ℕ) → intake_at intakes
 views_at_first intakes none conn intake there = absurd (let z : None ≡ Some intake = sym (none conn) ∙ there in cc)
 
 pub kept_first : (f : ConfigValue) (acts : List Act) (table : RouteTable) (hub : HubState) (start : MemNetState) (recorder : RecorderState)
-    → hub.config ≡ f → hub.entries ≡ [] → hub.pairs ≡ [] → hub.partings ≡ [] → start ≡ start_net acts → recorder ≡ record { notes = []; whole = true }
+    → hub.config ≡ f → hub.entries ≡ [] → hub.pairs ≡ [] → hub.partings ≡ [] → hub.tellings ≡ [] → start ≡ start_net acts → recorder ≡ record { notes = []; whole = true }
     → KeptAll (bus_beginning f table) (server hub (net_state start) (told_by recorder)) tt no_views None
-kept_first f acts table hub start recorder configured entries pairs partings begins empty =
-    kept_at_first (bus_beginning f table) (server hub (net_state start) (told_by recorder)) tt no_views entries pairs partings configured (table_at_first hub entries partings)
+kept_first f acts table hub start recorder configured entries pairs partings tellings begins empty =
+    kept_at_first (bus_beginning f table) (server hub (net_state start) (told_by recorder)) tt no_views entries pairs partings tellings configured (table_at_first hub entries partings)
     (ap told_by empty) (ap (λ (n : MemNetState). (net_state n).passed) begins) refl
+
+pub between_first : (recorder : RecorderState) → recorder ≡ record { notes = []; whole = true } → IsBetweenTurns (told_by recorder)
+between_first recorder empty notes is =
+    let none : [] ≡ notes = let z : Some [] ≡ Some notes = sym (ap told_by empty) ∙ is in cc in
+    subst BetweenTurns none at_first
 
 -- ---- after the last
 

@@ -24,11 +24,11 @@ pub use Rattle.frame_reader.specs.declared.reader.Reader.{Reader}
 pub use Rattle.frame_reader.specs.declared.step.Step.{Step}
 pub use Rattle.route_table.specs.All.{RouteTable}
 pub use Rattle.bus_handler.specs.All.{bus_order, bus_said, order_on, routes_of_bus}
-pub use Rattle.run_meaning.specs.All.{accepted_by, gather, is_accepted, is_gone_by_in, is_gone_in, number_of, LivedThroughout, Line, World, after_own, answered, appended, close_frame, data_frame, event_of, first_world, is_gone_phase, is_refused, line_after, noted, obey, obeyed, orders_of, phase, plain, run, step, is_gone_by, is_left, is_of, window, AreReplies, Right, Server, is_reading, frames_of}
+pub use Rattle.run_meaning.specs.All.{accepted_by, gather, is_accepted, is_gone_by_in, is_gone_in, number_of, LivedThroughout, Line, World, after_own, answered, appended, close_frame, data_frame, event_of, first_world, is_gone_phase, is_refused, line_after, noted, obey, obeyed, orders_of, phase, plain, run, step, is_gone_by, is_left, is_of, window, AreReplies, Right, Server, BetweenTurns, is_reading, at_first, frames_of}
 pub use Rattle.hub_lines.specs.All.{Settled, held_at, held_octets, Entry, HubState, entry_at, has_entry, is_gone, phase_at, ring_at, server}
 pub use Rattle.hub_notes.specs.All.{IsTable, table_of}
 pub use Rattle.run_kept.specs.All.{AreThere, backlog_at, IntakeView}
-pub use Rattle.loop_runner.specs.All.{intake_at, AreFew, AreViews, Beginning, EndsWithTurn, IsLivedThroughout, IsRight, IsSettled, KeptAll, no_view, GrowsBy, Runs, goes_on}
+pub use Rattle.loop_runner.specs.All.{intake_at, AreFew, AreViews, Beginning, EndsWithTurn, IsBetweenTurns, IsLivedThroughout, IsRight, IsSettled, KeptAll, no_view, GrowsBy, Runs, goes_on}
 pub use Rattle.loop_runner.specs.declared.intakes.Intakes.{Intakes}
 pub use Rattle.ws_program.specs.Answers.{Answers, AnswersAll, AnswersNext, AnswersOctets, AnswersStep, CountsFaults, GoesOn, Passes, Puts, answers_to}
 pub use Rattle.ws_program.specs.BusServer.{bus_server}

@@ -6,10 +6,22 @@ ghost use Rattle.hub_core.specs.At.{at};
 ghost use Rattle.hub_lines.specs.State.{phase_at};
 ghost use Rattle.hub_lines.specs.Calls.{Ties};
 
-use crate::{Arrival, Hub};
+use super::senders::{send_and_lose, send_to_both};
+use crate::Hub;
 use link_trait::{Net, NetEvent, Outside};
 use socket_core::Kept;
 use ws_kinds::{Conn, Kind, Order, Orders, Phase, Watch, Why};
+
+/// An order.
+#[derive(Clone, Copy)]
+pub enum Deed<'a> {
+    Join(&'a [u8]),
+    Part(&'a [u8]),
+    /// A text to a topic.
+    Publish(&'a [u8], &'a [u8]),
+    /// A text to a connection.
+    Send(Conn, &'a [u8]),
+}
 
 /// A call for one connection.
 #[derive(Clone, Copy)]
@@ -23,20 +35,22 @@ pub enum Call<'a> {
     Failed,
     Ended,
     Lost,
-    /// At most 16 orders.
-    Orders(&'a [Order<'a>]),
+    /// The first 16 of these orders.
+    Orders(&'a [Deed<'a>]),
     Writable,
     /// 65 orders: to subscribe to what is 1 to 65 times the octet 97. The last one is no topic.
     Topics,
     Tick,
     Turn,
+    /// A message, and the answer to it.
+    Send(Kind, &'a [u8], Result<Kept, Why>),
+    /// A message to a topic, with the connection as its sender where its number is not 0, and the answer to it.
+    Publish(&'a [u8], Kind, &'a [u8], Result<u64, Why>),
+    /// `send_to_both` serves both.
+    Both(Conn),
+    /// `send_and_lose` serves it.
+    Lose(Conn),
 }
-
-/// A message to a connection, and the answer to it.
-pub type Sending<'a> = (Conn, Kind, &'a [u8], Result<Kept, Why>);
-
-/// A message of a sender, if it has one, to a topic, and the answer to it.
-pub type Publication<'a> = (Option<Conn>, &'a [u8], Kind, &'a [u8], Result<u64, Why>);
 
 /// The connection that comes next, where one does.
 fn next_accepted<N: Net>(net: &mut N) -> Option<Conn>
@@ -52,27 +66,18 @@ fn next_accepted<N: Net>(net: &mut N) -> Option<Conn>
 }
 
 /// Takes in the connection that comes next.
-fn arrive<N: Net, W: Watch>(hub: &mut Hub, out: &mut Outside<N, W>) -> Option<Arrival>
+fn arrive<N: Net, W: Watch>(hub: &mut Hub, out: &mut Outside<N, W>)
     requires ties { Ties (at N.Net W.Watch hub.old out.old) }
     requires named { hub.old.named ≤ (N.state out.old.net).named }
     ensures ties { Ties (at N.Net W.Watch hub.new out.new) }
     ensures named { hub.new.named ≤ (N.state out.new.net).named }
 {
     match next_accepted(&mut out.net) {
-        Some(conn) => Some(hub.accept(out, conn)),
-        None => None,
+        Some(conn) => {
+            hub.accept(out, conn);
+        }
+        None => {}
     }
-}
-
-/// Two connections come.
-pub fn come_twice<N: Net, W: Watch>(hub: &mut Hub, out: &mut Outside<N, W>) -> [Option<Arrival>; 2]
-    requires unnamed { hub.old.named ≡ 0 }
-    requires empty { hub.old.entries ≡ [] }
-    ensures ties { Ties (at N.Net W.Watch hub.new out.new) }
-    ensures named { hub.new.named ≤ (N.state out.new.net).named }
-{
-    let first = arrive(hub, out);
-    [first, arrive(hub, out)]
 }
 
 /// A call for a connection whose request is read.
@@ -131,15 +136,32 @@ fn close<N: Net, W: Watch>(hub: &mut Hub, out: &mut Outside<N, W>, conn: Conn, r
     }
 }
 
-/// Serves these orders of a connection, where they are at most 16.
-fn serve<N: Net, W: Watch>(hub: &mut Hub, out: &mut Outside<N, W>, conn: Conn, orders: &[Order<'_>])
+fn order_of(deed: Deed<'_>) -> Order<'_> {
+    let kind = Kind::Text;
+    match deed {
+        Deed::Join(topic) => Order::Subscribe { topic },
+        Deed::Part(topic) => Order::Unsubscribe { topic },
+        Deed::Publish(topic, body) => Order::Publish { topic, kind, body },
+        Deed::Send(to, body) => Order::Send { to, kind, body },
+    }
+}
+
+/// The first 16 of these orders.
+fn orders_of<'a>(deeds: &[Deed<'a>]) -> Orders<'a> {
+    let mut orders = Orders::new();
+    for deed in deeds {
+        let _ = orders.try_push(order_of(*deed));
+    }
+    orders
+}
+
+/// Serves these orders of a connection.
+fn serve<N: Net, W: Watch>(hub: &mut Hub, out: &mut Outside<N, W>, conn: Conn, deeds: &[Deed<'_>])
     requires ties { Ties (at N.Net W.Watch hub.old out.old) }
     ensures ties { Ties (at N.Net W.Watch hub.new out.new) }
 {
-    match Orders::try_from(orders) {
-        Ok(orders) => hub.perform(out, conn, &orders),
-        Err(_) => {}
-    }
+    let orders = orders_of(deeds);
+    hub.perform(out, conn, &orders);
 }
 
 /// Subscribes a connection to each front of these octets, one after another.
@@ -154,7 +176,7 @@ fn subscribe_to_fronts<N: Net, W: Watch>(
 {
     'walk: for last in 0..octets.len() {
         let topic = &octets[..=last];
-        serve(hub, out, conn, &[Order::Subscribe { topic }]);
+        serve(hub, out, conn, &[Deed::Join(topic)]);
     }
 }
 
@@ -178,50 +200,74 @@ fn make<N: Net, W: Watch>(hub: &mut Hub, out: &mut Outside<N, W>, conn: Conn, ca
     }
 }
 
-/// Takes in six connections and makes these calls.
-pub fn play<N: Net, W: Watch>(hub: &mut Hub, out: &mut Outside<N, W>, calls: &[(Conn, Call<'_>)])
-    requires unnamed { hub.old.named ≡ 0 }
-    requires empty { hub.old.entries ≡ [] }
-    ensures ties { Ties (at N.Net W.Watch hub.new out.new) }
-{
-    come_twice(hub, out);
-    arrive(hub, out);
-    arrive(hub, out);
-    arrive(hub, out);
-    arrive(hub, out);
-    'walk: for (conn, call) in calls {
-        make(hub, out, *conn, *call);
-    }
+/// Whether a publication was answered so, and left the tally alone where it reached nobody.
+fn is_counted(found: Result<u64, Why>, wanted: Result<u64, Why>, stands: bool) -> bool {
+    found == wanted && (stands || found.unwrap_or(0) > 0)
 }
 
-/// The place of the first message that is answered otherwise.
-pub fn first_other_answer<N: Net, W: Watch>(
+/// Makes a call. The answer says whether it was answered as it should be.
+fn answers<N: Net, W: Watch>(
     hub: &mut Hub,
     out: &mut Outside<N, W>,
-    sends: &[Sending<'_>],
-) -> Option<usize>
+    conn: Conn,
+    call: Call<'_>,
+) -> bool
     requires ties { Ties (at N.Net W.Watch hub.old out.old) }
     ensures ties { Ties (at N.Net W.Watch hub.new out.new) }
 {
-    'walk: for (place, (to, kind, body, answer)) in sends.iter().enumerate() {
-        if hub.send(out, *to, *kind, body) != *answer {
-            return Some(place);
+    match call {
+        Call::Send(kind, body, answer) => hub.send(out, conn, kind, body) == answer,
+        Call::Publish(topic, kind, body, answer) => {
+            let tally = out.tally;
+            let found = hub.publish(out, sender(conn), topic, kind, body);
+            is_counted(found, answer, out.tally == tally)
         }
+        Call::Both(second) => {
+            send_to_both(hub, out, conn, second, Kind::Text, b"hi") == (true, true)
+        }
+        Call::Lose(lost) => send_and_lose(hub, out, conn, lost, Kind::Binary, b"ho"),
+        other => {
+            make(hub, out, conn, other);
+            true
+        }
+    }
+}
+
+/// A sender, where its number is not 0.
+fn sender(conn: Conn) -> Option<Conn> {
+    if conn.0 > 0 {
+        return Some(conn);
     }
     None
 }
 
-/// The place of the first publication that is answered otherwise.
-pub fn first_other_count<N: Net, W: Watch>(
-    hub: &mut Hub,
-    out: &mut Outside<N, W>,
-    publications: &[Publication<'_>],
-) -> Option<usize>
-    requires ties { Ties (at N.Net W.Watch hub.old out.old) }
+/// Six connections come.
+fn come<N: Net, W: Watch>(hub: &mut Hub, out: &mut Outside<N, W>)
+    requires unnamed { hub.old.named ≡ 0 }
+    requires empty { hub.old.entries ≡ [] }
     ensures ties { Ties (at N.Net W.Watch hub.new out.new) }
 {
-    'walk: for (place, (from, topic, kind, body, answer)) in publications.iter().enumerate() {
-        if hub.publish(out, *from, topic, *kind, body) != *answer {
+    arrive(hub, out);
+    arrive(hub, out);
+    arrive(hub, out);
+    arrive(hub, out);
+    arrive(hub, out);
+    arrive(hub, out);
+}
+
+/// Takes in six connections and makes these calls. The answer is the place of the first one that is answered otherwise.
+pub fn play<N: Net, W: Watch>(
+    hub: &mut Hub,
+    out: &mut Outside<N, W>,
+    calls: &[(Conn, Call<'_>)],
+) -> Option<usize>
+    requires unnamed { hub.old.named ≡ 0 }
+    requires empty { hub.old.entries ≡ [] }
+    ensures ties { Ties (at N.Net W.Watch hub.new out.new) }
+{
+    come(hub, out);
+    'walk: for (place, (conn, call)) in calls.iter().enumerate() {
+        if !answers(hub, out, *conn, *call) {
             return Some(place);
         }
     }

@@ -1,4 +1,4 @@
-//! A net whose writes to one connection fail.
+//! A net of which two writes fail.
 
 ghost use Rattle.std.specs.Prelude.{None, false};
 ghost use Rattle.link_trait.specs.Net.{CountsNextFaults, CountsNetReadFaults, CountsNetWriteFaults};
@@ -6,12 +6,14 @@ ghost use Rattle.link_trait.specs.Net.{CountsNextFaults, CountsNetReadFaults, Co
 use link_trait::{Listening, Net, NetEvent, NetRead, NetWrote};
 use ws_kinds::Conn;
 
-/// A net around another one, which is as that one, but that each write to one connection fails. It counts its own faults,
-/// and tells nothing.
+/// A net around another one, which is as that one, but that two writes fail. It counts its own faults, and tells nothing.
 #[derive(Drop)]
 pub struct FailingNet<N> {
     pub inner: N,
-    pub failing: Conn,
+    /// Which writes fail: 1 is the first one.
+    pub failing: (u64, u64),
+    /// The writes so far.
+    pub writes: u64,
     pub faults: u64,
 }
 
@@ -68,7 +70,8 @@ impl<N: Net> Net for FailingNet<N> {
     }
 
     fn write(&mut self, conn: Conn, octets: &[u8]) -> NetWrote {
-        if conn == self.failing {
+        self.writes = self.writes.saturating_add(1);
+        if self.writes == self.failing.0 || self.writes == self.failing.1 {
             self.faults = self.faults.saturating_add(1);
             return NetWrote::Failed;
         }

@@ -1,15 +1,49 @@
-//! What the tests work on: a net, a hub and a watch, and what became of them.
+//! What a row of the tests says of a hub, and whether a hub is so.
 
 ghost use Rattle.std.specs.Prelude.{◌≡◌, [], IfOk};
 
+use super::calls::{Call, play};
+use super::failing_net::FailingNet;
 use crate::Hub;
 use link_trait::{Act, Outside};
 use mem_net::{MemNet, Schedule};
 use std::test::*;
-use ws_kinds::{Config, Conn, Kind, Left, Note, Order, Recorder, Tally, Watch, Why};
+use ws_kinds::{Config, Conn, Left, Note, Phase, Recorder, Tally, Why};
 
-/// A net on which six connections arrive, and a watch that keeps the notes.
-pub fn outside(rt: &HostRuntime) -> Result<Outside<MemNet, Recorder>, Fail> {
+/// A note.
+#[derive(Clone, Copy)]
+pub enum Line<'a> {
+    /// All of so many octets was taken.
+    Took(Conn, u64),
+    /// It is admitted by `Call::Admit`.
+    Opened(Conn),
+    Gone(Conn, Left),
+    Unserved(Conn, u8, Why),
+    Is(Note<'a>),
+}
+
+/// A hub to which six connections come.
+pub struct Row<'a> {
+    /// Which writes fail: 1 is the first one, and 0 none.
+    pub failing: (u64, u64),
+    pub max_conns: u32,
+    pub calls: &'a [(Conn, Call<'a>)],
+    /// So many notes stand before those that are compared.
+    pub start: usize,
+    pub lines: &'a [Line<'a>],
+    /// The octets that links took.
+    pub taken: &'a [(Conn, &'a [u8])],
+    pub phases: &'a [(Conn, Option<Phase>)],
+    /// The entries at last, before and after the Closed events are handed out.
+    pub entries: (usize, usize),
+    /// The Closed events that there are at last.
+    pub closed: &'a [(Conn, u16, &'a [u8])],
+    /// The writes that failed.
+    pub faults: u64,
+}
+
+/// A net on which six connections arrive, and of which two writes fail.
+fn net(rt: &HostRuntime, failing: (u64, u64)) -> Result<FailingNet<MemNet>, Fail> {
     let mut schedule = Schedule::new(rt.alloc());
     for number in 1..=6 {
         let arrival = Act::Arrive {
@@ -21,15 +55,16 @@ pub fn outside(rt: &HostRuntime) -> Result<Outside<MemNet, Recorder>, Fail> {
     if !schedule.sound() {
         return Err(Fail::new("the schedule"));
     }
-    Ok(Outside {
-        net: MemNet::new(rt.alloc(), schedule).ok().ok_or("memory")?,
-        watch: Recorder::new(rt.alloc()),
-        tally: Tally::new(),
+    Ok(FailingNet {
+        inner: MemNet::new(rt.alloc(), schedule).ok().ok_or("memory")?,
+        failing,
+        writes: 0,
+        faults: 0,
     })
 }
 
 /// A hub of so many connections, for messages of at most 125 octets.
-pub fn hub_of(rt: &HostRuntime, max_conns: u32) -> Result<Hub, Fail>
+fn hub_of(rt: &HostRuntime, max_conns: u32) -> Result<Hub, Fail>
     ensures unnamed { IfOk result (λ hub. hub.named ≡ 0) }
     ensures empty { IfOk result (λ hub. hub.entries ≡ []) }
 {
@@ -37,74 +72,127 @@ pub fn hub_of(rt: &HostRuntime, max_conns: u32) -> Result<Hub, Fail>
     Ok(Hub::new(rt.alloc(), config).ok().ok_or("memory")?)
 }
 
-/// The first place from `start` on at which the notes of a watch are not these.
-pub fn differing(watch: &Recorder, start: usize, notes: &[Note<'_>]) -> Option<usize> {
+fn note_of(line: Line<'_>) -> Note<'_> {
+    match line {
+        Line::Took(conn, count) => Note::Took {
+            conn,
+            offered: count,
+            took: count,
+        },
+        Line::Opened(conn) => Note::Opened {
+            conn,
+            route: 3,
+            param: b"room",
+        },
+        Line::Gone(conn, left) => Note::Gone { conn, left },
+        Line::Unserved(conn, order, why) => Note::Unserved { conn, order, why },
+        Line::Is(note) => note,
+    }
+}
+
+/// Whether the notes of a watch are these, from `start` on.
+fn is_noted(watch: &Recorder, start: usize, lines: &[Line<'_>]) -> bool {
     let mut place = start;
-    for note in notes {
-        if place >= watch.count() {
-            return Some(place);
-        }
-        if watch.at(place) != *note {
-            return Some(place);
+    for line in lines {
+        if place >= watch.count() || watch.at(place) != note_of(*line) {
+            return false;
         }
         place += 1;
     }
-    if watch.count() > place {
-        return Some(place);
+    watch.count() == place
+}
+
+/// Whether the links took these octets.
+fn is_taken(net: &MemNet, taken: &[(Conn, &[u8])]) -> bool {
+    for (conn, octets) in taken {
+        if net.taken(*conn) != *octets {
+            return false;
+        }
     }
-    None
+    true
 }
 
-/// The note that the link of a connection took all of so many octets.
-pub fn took(conn: Conn, count: u64) -> Note<'static> {
-    Note::Took {
-        conn,
-        offered: count,
-        took: count,
+/// Whether connections are in these phases, and nothing is held for them.
+fn is_standing(hub: &Hub, phases: &[(Conn, Option<Phase>)]) -> bool {
+    for (conn, phase) in phases {
+        if hub.phase(*conn) != *phase || hub.held(*conn) > 0 {
+            return false;
+        }
     }
-}
-
-/// The note that a connection is admitted by `calls::play`.
-pub fn opened(conn: Conn) -> Note<'static> {
-    Note::Opened {
-        conn,
-        route: 3,
-        param: b"room",
-    }
-}
-
-/// The note that a connection is gone.
-pub fn gone(conn: Conn, left: Left) -> Note<'static> {
-    Note::Gone { conn, left }
-}
-
-/// The note that an order is not served.
-pub fn unserved(conn: Conn, order: u8, why: Why) -> Note<'static> {
-    Note::Unserved { conn, order, why }
-}
-
-/// The order to subscribe to a topic.
-pub fn subscribe(topic: &'static [u8]) -> Order<'static> {
-    Order::Subscribe { topic }
-}
-
-/// The order to unsubscribe from a topic.
-pub fn unsubscribe(topic: &'static [u8]) -> Order<'static> {
-    Order::Unsubscribe { topic }
-}
-
-/// The order to publish a text.
-pub fn publish(topic: &'static [u8], body: &'static [u8]) -> Order<'static> {
-    let kind = Kind::Text;
-    Order::Publish { topic, kind, body }
+    true
 }
 
 /// Whether the next Closed event is of this connection, with this code and this reason.
-pub fn is_closed(hub: &mut Hub, conn: Conn, code: u16, reason: &[u8]) -> bool {
+fn is_closed(hub: &mut Hub, conn: Conn, code: u16, reason: &[u8]) -> bool {
     match hub.next_closed() {
         Some(parting) => {
             parting.conn == conn && parting.code == code && parting.reason.as_slice() == reason
         }
         None => false,
     }
+}
+
+/// Whether these are the Closed events, each handed out once.
+fn is_parted(hub: &mut Hub, closed: &[(Conn, u16, &[u8])]) -> bool {
+    for (conn, code, reason) in closed {
+        if !is_closed(hub, *conn, *code, reason) {
+            return false;
+        }
+    }
+    hub.next_closed().is_none()
+}
+
+/// Whether a hub has so many entries, and is full where they are the most that there may be.
+fn has_entries(hub: &Hub, count: usize, max_conns: u32) -> bool {
+    hub.count() == count && hub.full() == (count == max_conns as usize)
+}
+
+/// What of a hub at last differs from a row, if anything does. Nothing is to be told of connections.
+fn other_end(hub: &mut Hub, row: &Row<'_>) -> Option<&'static str> {
+    if !is_standing(hub, row.phases) {
+        return Some("phases");
+    }
+    if !has_entries(hub, row.entries.0, row.max_conns) || hub.next_told(Conn(0)).is_some() {
+        return Some("entries");
+    }
+    if !is_parted(hub, row.closed) {
+        return Some("closed");
+    }
+    if !has_entries(hub, row.entries.1, row.max_conns) {
+        return Some("left");
+    }
+    None
+}
+
+/// What differs first from a row, if anything does.
+fn difference(rt: &HostRuntime, row: &Row<'_>) -> Result<Option<&'static str>, Fail> {
+    let mut out = Outside {
+        net: net(rt, row.failing)?,
+        watch: Recorder::new(rt.alloc()),
+        tally: Tally::new(),
+    };
+    let mut hub = hub_of(rt, row.max_conns)?;
+    if play(&mut hub, &mut out, row.calls).is_some() {
+        return Ok(Some("answers"));
+    }
+    if !is_noted(&out.watch, row.start, row.lines) {
+        return Ok(Some("notes"));
+    }
+    if !is_taken(&out.net.inner, row.taken) || out.net.faults != row.faults {
+        return Ok(Some("octets"));
+    }
+    Ok(other_end(&mut hub, row))
+}
+
+/// The first row that differs, and what differs from it.
+pub fn first_other(
+    rt: &HostRuntime,
+    rows: &[Row<'_>],
+) -> Result<Option<(usize, &'static str)>, Fail> {
+    for (place, row) in rows.iter().enumerate() {
+        if let Some(what) = difference(rt, row)? {
+            return Ok(Some((place, what)));
+        }
+    }
+    Ok(None)
 }

@@ -58,7 +58,7 @@ pub(super) enum Lines<'a> {
     Orders,
     /// Those of what a link took in one write.
     Writes,
-    /// Those of what was dropped, and of links.
+    /// Those of what was dropped, of what the handler was told of that, and of links.
     Backlog,
     /// Those of what was heard of the connection with these digits, and of its link.
     Heard(&'a [u8]),
@@ -79,7 +79,7 @@ fn is_compared(lines: Lines<'_>, line: &[u8]) -> bool {
         Lines::Notes => !is_among(word, &[b"took", b"link"]),
         Lines::Orders => is_among(word, &[b"unserved", b"closed", b"gone", b"link"]),
         Lines::Writes => is_among(word, &[b"took"]),
-        Lines::Backlog => is_among(word, &[b"dropped", b"link"]),
+        Lines::Backlog => is_among(word, &[b"dropped", b"told", b"link"]),
         Lines::Heard(conn) => {
             words.next() == Some(conn) && !is_among(word, &[b"took", b"given", b"accept"])
         }
@@ -324,8 +324,8 @@ fn schedules_have_their_reports(rt: HostRuntime) -> Result<(), Fail> {
 
 /// With a backlog of at most 10 octets and messages of at most 125: the acts of a schedule with links that take less than they are
 /// offered, or whose writes fail, and the lines of its report that are compared.
-const BACKLOGS: [(Lines<'static>, &str, &str); 9] = [
-    // what a link did not take is held, and goes out when it takes octets again
+const BACKLOGS: [(Lines<'static>, &str, &str); 10] = [
+    // what a link did not take is held, and goes out when it takes octets again; then the handler is told
     (
         Lines::All,
         "a 1 132\nr 1 HEAD\n.\nr 1 818537fa213d7f9f4d5158\n.\n",
@@ -334,13 +334,19 @@ const BACKLOGS: [(Lines<'static>, &str, &str); 9] = [
     (
         Lines::All,
         "a 1 132\nr 1 HEAD\n.\nr 1 818537fa213d7f9f4d5158\n.\nw 1 4\n.\n",
-        "accept 1\ngiven 1 144\nopened 1 0 -\ntook 1 129 129\nturn\ngiven 1 11\ntext 1 48656c6c6f\ntook 1 7 3\nturn\ntook 1 4 4\nturn\nturn\nlink 1 0 REPLY810548656c6c6f\n",
+        "accept 1\ngiven 1 144\nopened 1 0 -\ntook 1 129 129\nturn\ngiven 1 11\ntext 1 48656c6c6f\ntook 1 7 3\nturn\ntook 1 4 4\nturn\ntold 1 0 yes\nturn\nlink 1 0 REPLY810548656c6c6f\n",
     ),
-    // over the limit a publication is dropped: the second one was put behind 7 octets, the third one comes at 14
+    // over the limit a publication is dropped: the second one was put behind 7 octets, the third one comes at 14; the handler is told
     (
         Lines::All,
         "a 1 *\nr 1 ROOM\na 2 129\nr 2 ROOM\n.\nr 1 81850000000048656c6c6f\nr 1 81850000000048656c6c6f\nr 1 81850000000048656c6c6f\n.\n",
-        "accept 1\ngiven 1 146\nopened 1 1 6d\ntook 1 129 129\naccept 2\ngiven 2 146\nopened 2 1 6d\ntook 2 129 129\nturn\ngiven 1 11\ntext 1 48656c6c6f\ntook 2 7 0\ngiven 1 11\ntext 1 48656c6c6f\ngiven 1 11\ntext 1 48656c6c6f\ndropped 2 3 14\nturn\nturn\nlink 1 0 REPLY\nlink 2 14 REPLY\n",
+        "accept 1\ngiven 1 146\nopened 1 1 6d\ntook 1 129 129\naccept 2\ngiven 2 146\nopened 2 1 6d\ntook 2 129 129\nturn\ngiven 1 11\ntext 1 48656c6c6f\ntook 2 7 0\ngiven 1 11\ntext 1 48656c6c6f\ngiven 1 11\ntext 1 48656c6c6f\ndropped 2 3 14\nturn\ntold 2 1 no\nturn\nlink 1 0 REPLY\nlink 2 14 REPLY\n",
+    ),
+    // of a drop the handler is told once, and then that what was held is taken
+    (
+        Lines::Backlog,
+        "a 1 129\nr 1 HEAD\nr 1 82fd00000000MANY\nr 1 828100000000ff\n.\n.\nw 1 127\n.\n.\n.\n",
+        "dropped 1 2 127\ntold 1 1 no\ntold 1 0 yes\nlink 1 0 REPLY827dMANY\n",
     ),
     // at the limit a frame is kept, and one octet over it it is dropped
     (
@@ -363,7 +369,7 @@ const BACKLOGS: [(Lines<'static>, &str, &str); 9] = [
     (
         Lines::All,
         "a 1 129\nr 1 HEAD\nr 1 82fd00000000MANY\nr 1 828100000000ff\n.\nr 1 88820000000003e8\n.\nw 1 131\n.\n",
-        "accept 1\ngiven 1 144\nopened 1 0 -\ntook 1 129 129\ngiven 1 131\nbinary 1 MANY\ntook 1 127 0\ngiven 1 7\nbinary 1 ff\ndropped 1 2 127\nturn\ngiven 1 8\npeerclose 1 1000 -\nclosed 1 1000 -\nturn\ntook 1 131 131\ngone 1 finished\nturn\nturn\nlink 1 0 REPLY827dMANY880203e8\n",
+        "accept 1\ngiven 1 144\nopened 1 0 -\ntook 1 129 129\ngiven 1 131\nbinary 1 MANY\ntook 1 127 0\ngiven 1 7\nbinary 1 ff\ndropped 1 2 127\nturn\ntold 1 1 no\ngiven 1 8\npeerclose 1 1000 -\nclosed 1 1000 -\nturn\ntook 1 131 131\ngone 1 finished\nturn\nturn\nlink 1 0 REPLY827dMANY880203e8\n",
     ),
     // a link fails while octets over the limit are held for it
     (
@@ -399,7 +405,7 @@ fn a_backlog_has_a_limit(rt: HostRuntime) -> Result<(), Fail> {
     let found = report_of(&rt, config, Lines::Backlog, &stalled_room(&rt, 200)?)?;
     let mut wanted = String::new(rt.alloc());
     for index in 3..=200 {
-        wanted.push_str(&format!(in rt.alloc(); "dropped 2 {index} 14\n")?)?;
+        wanted.push_str(&format!(in rt.alloc(); "dropped 2 {index} 14\ntold 2 1 no\n")?)?;
     }
     wanted.push_str(&filled(&rt, "link 1 0 REPLY\nlink 2 14 REPLY\n")?)?;
     assert_eq!(rt; found.as_str(), wanted.as_str());

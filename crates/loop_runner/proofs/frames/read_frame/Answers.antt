@@ -1,4 +1,4 @@
-use Rattle.loop_runner.proofs.All.{◌≡◌, Option, Some, None, false, sym, ap, ◌∙◌, subst, Phase, Open, Leaving, phase_at, has_frames, step_is_read, beginning, HasFrames, step_sound, keep_rest, frames_after, taken_after}
+use Rattle.loop_runner.proofs.All.{◌≡◌, Option, Some, None, false, sym, ap, ◌∙◌, subst, Phase, Open, Leaving, phase_at, has_frames, step_is_read, beginning, HasFrames, step_sound, keep_rest, frames_after, taken_after, Every, steps_same}
 use Rattle.loop_runner.proofs.frames.read_frame.Goals as goal
 
 pub take_open-requires-clause-sound : goal.take_open-requires-clause-sound
@@ -54,3 +54,15 @@ returns-in-Some-Gone-clause-kept g c = λ table start config. keep_rest (beginni
 
 pub returns-in-None-clause-kept : goal.returns-in-None-clause-kept
 returns-in-None-clause-kept g c = λ table start config. keep_rest (beginning g.H.Handler start config table) c.args.conn.0 c.args.route c.args.param.now c.args.reader.now _ _ c.requires.frames (ap has_frames (sym c.phase.ensures ∙ c.in-None.is))
+
+pub returns-in-Some-Head-clause-steps : goal.returns-in-Some-Head-clause-steps
+returns-in-Some-Head-clause-steps g c = steps_same Every _
+
+pub returns-in-Some-Ending-clause-steps : goal.returns-in-Some-Ending-clause-steps
+returns-in-Some-Ending-clause-steps g c = steps_same Every _
+
+pub returns-in-Some-Gone-clause-steps : goal.returns-in-Some-Gone-clause-steps
+returns-in-Some-Gone-clause-steps g c = steps_same Every _
+
+pub returns-in-None-clause-steps : goal.returns-in-None-clause-steps
+returns-in-None-clause-steps g c = steps_same Every _

@@ -1,4 +1,4 @@
-use Rattle.loop_runner.proofs.All.{List, refl, ap, subst, Leaving, Event, events_of, has_frames, of_here, IsRead, beginning, keep_more, keep_passed, keep_close, keep_failed, ends_reading, steps_sends}
+use Rattle.loop_runner.proofs.All.{List, refl, ap, subst, Leaving, Event, events_of, has_frames, of_here, IsRead, beginning, keep_more, keep_passed, keep_close, keep_failed, ends_reading, steps_sends, Every, steps_same}
 use Rattle.loop_runner.proofs.frames.take_leaving.Goals as goal
 
 pub returns-in-Close-clause-steps : goal.returns-in-Close-clause-steps
@@ -38,3 +38,15 @@ pub returns-in-Failed-clause-kept : goal.returns-in-Failed-clause-kept
 returns-in-Failed-clause-kept g c = λ table before after route param reads start config.
     keep_failed (beginning g.H.Handler start config table) c.args.conn.0 route param before after _ _ c.in-Failed.code _ (ap has_frames c.requires.phase)
     (subst (λ (z : List Event). IsRead before z after) (ap events_of c.in-Failed.is) reads) c.failed.ensures
+
+pub returns-in-More-clause-steps : goal.returns-in-More-clause-steps
+returns-in-More-clause-steps g c = steps_same Every _
+
+pub returns-in-Message-clause-steps : goal.returns-in-Message-clause-steps
+returns-in-Message-clause-steps g c = steps_same Every _
+
+pub returns-in-Ping-clause-steps : goal.returns-in-Ping-clause-steps
+returns-in-Ping-clause-steps g c = steps_same Every _
+
+pub returns-in-Pong-clause-steps : goal.returns-in-Pong-clause-steps
+returns-in-Pong-clause-steps g c = steps_same Every _

@@ -1,4 +1,4 @@
-use Rattle.loop_runner.proofs.All.{List, refl, ap, subst, Open, events_of, has_frames, of_here, Event, IsRead, beginning, keep_more, keep_message, keep_ping, keep_pong, keep_close, keep_failed, ends_reading, steps_sends, steps_notes}
+use Rattle.loop_runner.proofs.All.{List, refl, ap, subst, Open, events_of, has_frames, of_here, Event, IsRead, beginning, keep_more, keep_message, keep_ping, keep_pong, keep_close, keep_failed, ends_reading, steps_sends, steps_notes, Every, steps_same}
 use Rattle.loop_runner.proofs.frames.take_open.Goals as goal
 
 pub returns-in-Ping-clause-steps : goal.returns-in-Ping-clause-steps
@@ -48,3 +48,6 @@ pub returns-in-Failed-clause-kept : goal.returns-in-Failed-clause-kept
 returns-in-Failed-clause-kept g c = λ table before after reads start config.
     keep_failed (beginning g.H.Handler start config table) c.args.conn.0 c.args.route c.args.param.now before after _ _ c.in-Failed.code _ (ap has_frames c.requires.phase)
     (subst (λ (z : List Event). IsRead before z after) (ap events_of c.in-Failed.is) reads) c.failed.ensures
+
+pub returns-in-More-clause-steps : goal.returns-in-More-clause-steps
+returns-in-More-clause-steps g c = steps_same Every _

@@ -19,7 +19,7 @@ returns g c =
       kept = λ table answer rest before next few start config views are k. (
         views,
         views_tidied c.args.intakes.now c.tidy.new.intakes c.end_turn.new.self views tidy.entries tidy.kept are,
-        keep_ended (beginning g.H.Handler start config table) c.args.hub.now before _ _ _ views answer _ rest next few ended.ends ended.appends ended.table k,
+        keep_ended (beginning g.H.Handler start config table) c.args.hub.now before _ _ _ views answer _ rest next few ended.ends ended.appends ended.table ended.settled k,
       );
       settled = λ table answer rest before next few start config views are k there.
           settled_ended (beginning g.H.Handler start config table) c.args.hub.now before _ _ _ views answer _ rest next few ended.ends ended.appends ended.table ended.settled ended.ties run.waits (λ d. run.asked d (tt {0})) c.requires.none k there;

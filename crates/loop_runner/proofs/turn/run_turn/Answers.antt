@@ -8,6 +8,7 @@ events-init g c =
       running = due.running;
       none = c.begin.ensures.none;
       there = due.steps.there;
+      told = c.begin.ensures.told;
       passed = passes_onward _ _ due.steps.onward;
       grows = due.steps.onward.grows;
       turns = due.steps.onward.turns;
@@ -24,6 +25,7 @@ events-preserved g c =
       running = c.in-None.ensures.between.running;
       none = c.in-None.ensures.between.none;
       there = λ there. taken.there (before.there there);
+      told = taken.told (at g.N.Net g.W.Watch c.args.hub.now c.args.out.now) before.told;
       passed = passes_then _ _ _ before.passed passed;
       grows = grows_then _ _ _ before.grows taken.grows;
       turns = turns_both 0 0 (g.W.Watch.told c.args.out.now.watch) (g.W.Watch.told c.events.out.watch) (g.W.Watch.told c.take_event.new.out.watch) before.turns c.in-None.ensures.between.turns;
@@ -38,4 +40,4 @@ returns-in-Some g c =
     let before = c.events.invariant in
     turn_made c.args.routes.now c.in-Some.turned c.args.intakes.now c.events.intakes c.take_event.new.intakes (moment g.N.Net g.W.Watch g.H.Handler c.args.hub.now c.args.out.now c.args.handler.now)
     (moment g.N.Net g.W.Watch g.H.Handler c.events.hub c.events.out c.events.handler) (moment g.N.Net g.W.Watch g.H.Handler c.take_event.new.hub c.take_event.new.out c.take_event.new.handler)
-    before.passed before.turns before.links before.grows before.there before.kept c.in-Some.ensures
+    before.passed before.turns before.links before.grows before.there before.told before.kept c.in-Some.ensures

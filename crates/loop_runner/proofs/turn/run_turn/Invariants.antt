@@ -1,4 +1,4 @@
-use Rattle.loop_runner.proofs.Below.{◌≡◌, ℕ, None, at, due_at, AreThere, moment, IsKeptThen, Every, Grows, NotesTurns, RisesBeyond, Running, WhereKept, PassesBetween}
+use Rattle.loop_runner.proofs.Below.{◌≡◌, ℕ, None, at, due_at, AreThere, moment, IsKeptThen, Every, Grows, NotesTurns, RisesBeyond, Running, WhereKept, PassesBetween, TellsAll}
 use Rattle.loop_runner.proofs.turn.run_turn.Given as goal
 
 abbrev pub invariant-events : goal.invariant-events
@@ -9,6 +9,7 @@ invariant-events g l =
       running : Running Every l.intakes (at g.N.Net g.W.Watch l.hub l.out);
       none : (conn : ℕ) → due_at l.hub conn ≡ None;
       there : AreThere (at g.N.Net g.W.Watch l.fn.hub l.fn.out) → AreThere (at g.N.Net g.W.Watch l.hub l.out);
+      told : TellsAll (at g.N.Net g.W.Watch l.fn.hub l.fn.out) (at g.N.Net g.W.Watch l.hub l.out);
       passed : PassesBetween (g.N.Net.state l.fn.out.net) (g.N.Net.state l.out.net);
       grows : Grows (at g.N.Net g.W.Watch l.fn.hub l.fn.out) (at g.N.Net g.W.Watch l.hub l.out);
       turns : NotesTurns 0 (g.W.Watch.told l.fn.out.watch) (g.W.Watch.told l.out.watch);
