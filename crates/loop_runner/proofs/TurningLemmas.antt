@@ -166,6 +166,7 @@ module _ {H : Type 0} {handler : HandlerMeaning H} (table : RouteTable) where
     kept = x.kept;
     right = right_then before after a d x.kept x.ready;
     there = x.there;
+    between = x.between;
     settled = λ one. x.settled (some one);
     last = λ one. x.last (some one);
     throughout = x.throughout;

@@ -98,6 +98,7 @@ pub record MakesRun {H : Type 0} {handler : HandlerMeaning H} (table : RouteTabl
   pub kept : WhereKept table before old new (IsKeptThen after new)
   pub right : WhereKept table before old new (λ b. IsRight b new.server new.now)
   pub there : AreThere old.server → AreThere new.server
+  pub between : IsBetweenTurns old.server.told → IsBetweenTurns new.server.told
   pub settled : 1 ≤ turns → WhereKept table before old new (λ b. AreThere old.server → IsBetweenTurns old.server.told → IsSettled b new.server)
   pub last : 1 ≤ turns → EndsWithTurn new.server.told
   pub throughout : WhereKept table before old new (λ b. IsLivedThroughout b old.server → IsLivedThroughout b new.server)
