@@ -1,10 +1,12 @@
 -- What the built-in handler orders, and its routes.
-use Rattle.std.specs.Prelude.{ℕ, List, [], ◌∷◌, ◌+◌, Option, Some, None, nat_eq, take, drop, codes, if◌then◌else◌}
-use Rattle.std.specs.List.{position}
-use Rattle.std.specs.Option.{option_to_list, unwrap_or}
+use Rattle.std.specs.Prelude.{ℕ, List, [], ◌∷◌, ◌+◌, ◌&&◌, Option, Some, None, nat_eq, take, drop, length, codes, if◌then◌else◌}
+use Rattle.std.specs.Char.{is_ascii_digit}
+use Rattle.std.specs.List.{list_all, position}
+use Rattle.std.specs.Option.{option_map, option_to_list, unwrap_or}
+use Rattle.std.specs.Str.Parse.{digits_value}
 use Rattle.ws_kinds.specs.declared.kind.Kind.{Kind}
 use Rattle.ws_kinds.specs.EventValue.{EventValue, WhatValue, opened, message, told, closed}
-use Rattle.ws_kinds.specs.OrderValue.{OrderValue, send, subscribe, unsubscribe, publish}
+use Rattle.ws_kinds.specs.OrderValue.{OrderValue, send, subscribe, unsubscribe, publish, close}
 use Rattle.route_table.specs.Table.{RouteTable, no_routes, with_route}
 
 -- ---- the routes, by their numbers
@@ -35,12 +37,21 @@ published_by kind octets (Some place) = Some (publish (take place octets) kind (
 abbrev pub published : Kind → List ℕ → Option OrderValue
 published kind octets = published_by kind octets (space_in octets)
 
--- what a message of `/bus` orders by its first octet: `+` to subscribe to the topic that follows, `-` to end that, and `=` to
--- publish
+-- the code that four decimal digits say; other octets say none
+abbrev pub code_in : List ℕ → Option ℕ
+code_in octets = if nat_eq (length octets) 4 && list_all is_ascii_digit octets then Some (digits_value 10 octets) else None
+
+-- four decimal digits close the connection, with their code and no reason; other octets are nothing
+abbrev pub closed_by : List ℕ → Option OrderValue
+closed_by octets = option_map (λ code. close code []) (code_in octets)
+
+-- what a message of `/bus` orders by its first octet: `+` to subscribe to the topic that follows, `-` to end that, `=` to
+-- publish, and `x` to close
 abbrev pub commanded : Kind → List ℕ → Option OrderValue
 commanded kind [] = None
 commanded kind (first ∷ rest) =
-    if nat_eq first 43 then Some (subscribe rest) else if nat_eq first 45 then Some (unsubscribe rest) else if nat_eq first 61 then published kind rest else None
+    if nat_eq first 43 then Some (subscribe rest) else if nat_eq first 45 then Some (unsubscribe rest) else if nat_eq first 61 then published kind rest
+    else if nat_eq first 120 then closed_by rest else None
 
 -- what a message orders: on `/echo` it is sent back, in a room it is published to all others there, and on `/bus` it is a
 -- command, or is sent back

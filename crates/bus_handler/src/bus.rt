@@ -43,10 +43,11 @@ impl Bus {
     /// - on `/echo` a message is sent back;
     /// - in a room, who comes subscribes to the room's name, and a message is published to it, so that all others get it;
     /// - on `/bus` the message `+t` subscribes to the topic t, `-t` ends that, and `=t body` publishes the body to t, whose name
-    ///   ends before the first space; every other message is sent back.
+    ///   ends before the first space; `x` and four decimal digits, and nothing else, closes the connection with the code that
+    ///   they say and no reason; every other message is sent back.
     ///
-    /// The kind of a message does not matter for what it orders. A topic is not looked at here: whether it is one is the
-    /// server's matter.
+    /// The kind of a message does not matter for what it orders. Neither a topic nor a code is looked at here: whether it is
+    /// one, and whether it may be sent, is the server's matter.
     pub fn order<'m>(event: Event<'m>) -> Option<Order<'m>>
         ensures { option_map order_value result ≡ bus_order (event_value event.entry) }
     {

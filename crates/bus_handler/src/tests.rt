@@ -33,6 +33,27 @@ const COMMANDS: &[(&[u8], Order<'_>)] = &[
     (b"++", Order::Subscribe { topic: b"+" }),
     (b"-t", Order::Unsubscribe { topic: b"t" }),
     (b"-", Order::Unsubscribe { topic: b"" }),
+    (
+        b"x1000",
+        Order::Close {
+            code: 1000,
+            reason: b"",
+        },
+    ),
+    (
+        b"x9999",
+        Order::Close {
+            code: 9999,
+            reason: b"",
+        },
+    ),
+    (
+        b"x0000",
+        Order::Close {
+            code: 0,
+            reason: b"",
+        },
+    ),
 ];
 
 /// Messages of the bus that publish, with the topic and the body.
@@ -52,10 +73,11 @@ const OTHERS: &[&[u8]] = &[
     b"=abc",
     b" +t",
     b"x",
-    b"x1000",
     b"x100",
     b"x10000",
-    b"x1o00",
+    b"x1a00",
+    b"x+100",
+    b"X1000",
     b"\x00\xff",
 ];
 

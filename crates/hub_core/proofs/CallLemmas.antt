@@ -133,18 +133,6 @@ notes_alone c n hub net t t' told inner silent one ties table =
 
 -- ---- octets that were read
 
-heard_none : (leaves : Bool) → one_heard leaves new_count ≡ new_count
-heard_none true = refl
-heard_none false = refl
-
--- as long as no ticks are counted
-pub counts_given : (hub : HubState) (c n : ℕ) → ((d : ℕ) → counts_at hub d ≡ new_count) → CountsBy (note.given c n) hub hub
-counts_given hub c n none d there = (inl there, one (nat_eq c d) (leaves_at hub d) (counts_at hub d) (none d))
-  where
-    one : (own leaves : Bool) (count : QuietCount) → count ≡ new_count → count ≡ cond own (one_heard leaves count) count
-    one true leaves count e = e ∙ sym (heard_none leaves) ∙ ap (one_heard leaves) (sym e)
-    one false leaves count e = refl
-
 -- ---- a connection that goes on to another phase
 
 -- as long as nothing is corked or pending
@@ -394,6 +382,15 @@ hub_accepted a b p r c was above same table =
     (λ off. was.rows c (ap (λ (z : Entry). may_hold z.phase) (none_of a.entries c none)))
     (λ some. absurd (some (ap (λ (z : Entry). z.ring) is)))
 
+-- ---- a hub in which who is not gone stays
+
+-- who is not gone stands as it stood
+pub record Stays (a b : HubState) : Type 0 where
+  pub config : b.config ≡ a.config
+  pub named : a.named ≤ b.named
+  pub gone : (d : ℕ) → is_gone (entry_at b d).phase ≡ is_gone (entry_at a d).phase
+  pub still : (d : ℕ) → is_gone (entry_at a d).phase ≡ false → Still a b d
+
 -- ---- a Closed event that is handed out
 
 -- the connection's entry is as it was, or it was gone and is no entry any more
@@ -427,37 +424,41 @@ module _ {c : ℕ} {a b : HubState} (f : Forgets c a b) where
       (λ q. subst (λ (z : ℕ). Still a b z) (sym q) (record { held = held_here (subst (λ (z : ℕ). is_gone (entry_at a z).phase ≡ false) q e); gone = gone_both }))
       (λ ne. still_of c a b f.change d ne)
 
-  pub ties_forgotten : (net : NetState) (t : Option (List NoteValue)) → Ties (server a net t) → Ties (server b net t)
-  ties_forgotten net t ties d there = ties d (ap not (sym (gone_as d)) ∙ there)
+  pub stays_forgotten : Stays a b
+  stays_forgotten = record { config = f.change.table.config; named = let h = change_named f.change in omega arith; gone = gone_as; still = still_as }
 
-  line_forgotten : (d : ℕ) (net : NetState) (t : Option (List NoteValue)) → KeepsLine d [] (server a net t) (server b net t)
-  line_forgotten d net t = by_cases (is_gone (entry_at b d).phase)
+module _ {a b : HubState} (f : Stays a b) where
+  pub ties_stay : (net : NetState) (t : Option (List NoteValue)) → Ties (server a net t) → Ties (server b net t)
+  ties_stay net t ties d there = ties d (ap not (sym (f.gone d)) ∙ there)
+
+  line_stays : (d : ℕ) (net : NetState) (t : Option (List NoteValue)) → KeepsLine d [] (server a net t) (server b net t)
+  line_stays d net t = by_cases (is_gone (entry_at b d).phase)
       (λ e. line_gone d [] (server a net t) (server b net t) (ap not e))
-      (λ e. let was : is_gone (entry_at a d).phase ≡ false = sym (gone_as d) ∙ e in
-      line_still d (server a net t) (server b net t) (λ there. ap not was) (still_as d was).held (ap (λ z. z.limit) f.change.table.config) (λ items s. s) (λ items s. s))
+      (λ e. let was : is_gone (entry_at a d).phase ≡ false = sym (f.gone d) ∙ e in
+      line_still d (server a net t) (server b net t) (λ there. ap not was) (f.still d was).held (ap (λ z. z.limit) f.config) (λ items s. s) (λ items s. s))
 
   was_there : (d : ℕ) → is_present b d ≡ true → is_gone (entry_at a d).phase ≡ false
-  was_there d there = sym (gone_as d) ∙ falsely (is_gone (entry_at b d).phase) there
+  was_there d there = sym (f.gone d) ∙ falsely (is_gone (entry_at b d).phase) there
 
-  front_forgotten : (d : ℕ) (net : NetState) (t : Option (List NoteValue)) → KeepsFront d [] (server a net t) (server b net t)
-  front_forgotten d net t = record {
+  front_stays : (d : ℕ) (net : NetState) (t : Option (List NoteValue)) → KeepsFront d [] (server a net t) (server b net t)
+  front_stays d net t = record {
     tells = refl;
     told = λ notes e. (notes, e);
-    count = λ there few. items_still a b d (still_as d (was_there d there));
-    front = λ there away few items stands. clash (is_gone (entry_at b d).phase) (gone_as d ∙ falsely (is_gone (entry_at a d).phase) there) (truly (is_gone (entry_at b d).phase) away);
+    count = λ there few. items_still a b d (f.still d (was_there d there));
+    front = λ there away few items stands. clash (is_gone (entry_at b d).phase) (f.gone d ∙ falsely (is_gone (entry_at a d).phase) there) (truly (is_gone (entry_at b d).phase) away);
     taken = λ away. refl;
     drops = λ away. drops_still d t;
-    fair = λ there away few items stands fair. clash (is_gone (entry_at b d).phase) (gone_as d ∙ falsely (is_gone (entry_at a d).phase) there) (truly (is_gone (entry_at b d).phase) away);
+    fair = λ there away few items stands fair. clash (is_gone (entry_at b d).phase) (f.gone d ∙ falsely (is_gone (entry_at a d).phase) there) (truly (is_gone (entry_at b d).phase) away);
     stays = λ away limit items fair. fair;
   }
 
   ring_as : (d : ℕ) → is_present b d ≡ true → ring_at b d ≡ ring_at a d
-  ring_as d there = ap (λ (z : Held). z.ring) (still_as d (was_there d there)).held
+  ring_as d there = ap (λ (z : Held). z.ring) (f.still d (was_there d there)).held
 
-  pub appends_forgotten : (net : NetState) (t : Option (List NoteValue)) → Appends nothing (server a net t) (server b net t)
-  appends_forgotten net t = record {
-    lines = record { config = f.change.table.config; named = let h = change_named f.change in omega arith; lines = λ d few. line_forgotten d net t };
-    fronts = λ d few. front_forgotten d net t;
+  pub appends_stay : (net : NetState) (t : Option (List NoteValue)) → Appends nothing (server a net t) (server b net t)
+  appends_stay net t = record {
+    lines = record { config = f.config; named = f.named; lines = λ d few. line_stays d net t };
+    fronts = λ d few. front_stays d net t;
     short = λ s d there. subst (λ (z : List ℕ). ShortWhereHeld d z t) (sym (ring_as d there)) (s d (ap not (was_there d there)));
     waits = λ w d there some. w d (ap not (was_there d there)) (λ none. some (ring_as d there ∙ none));
   }
@@ -468,11 +469,11 @@ plain_forgets c a b p r entry change = record { entry = entry; cork = refl; pend
 
 pub appends_taken : (o : Option PartingValue) (a b : TableState) (p : List (ℕ × List ℕ)) (r : TellingsState) (net : NetState) (t : Option (List NoteValue)) → TakesDue o a b → Appends nothing (server (hub_of a p r) net t) (server (hub_of b p r) net t)
 appends_taken None a b p r net t takes = subst (λ (z : TableState). Appends nothing (server (hub_of a p r) net t) (server (hub_of z p r) net t)) (sym takes.0) (appends_same (server (hub_of a p r) net t))
-appends_taken (Some parting) a b p r net t takes = appends_forgotten (plain_forgets parting.conn a b p r takes.3 takes.4) net t
+appends_taken (Some parting) a b p r net t takes = appends_stay (stays_forgotten (plain_forgets parting.conn a b p r takes.3 takes.4)) net t
 
 pub ties_taken : (o : Option PartingValue) (a b : TableState) (p : List (ℕ × List ℕ)) (r : TellingsState) (net : NetState) (t : Option (List NoteValue)) → TakesDue o a b → Ties (server (hub_of a p r) net t) → Ties (server (hub_of b p r) net t)
 ties_taken None a b p r net t takes ties = subst (λ (z : TableState). Ties (server (hub_of z p r) net t)) (sym takes.0) ties
-ties_taken (Some parting) a b p r net t takes ties = ties_forgotten (plain_forgets parting.conn a b p r takes.3 takes.4) net t ties
+ties_taken (Some parting) a b p r net t takes ties = ties_stay (stays_forgotten (plain_forgets parting.conn a b p r takes.3 takes.4)) net t ties
 
 -- a Closed event leaves who is not gone
 pub hub_taken : (o : Option PartingValue) (a b : TableState) (p : List (ℕ × List ℕ)) (r : TellingsState) → TakesDue o a b → IsTable b → IsHub a p r → IsHub b p r

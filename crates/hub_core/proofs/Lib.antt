@@ -13,7 +13,9 @@ pub mod OfferLemmas
 pub mod ToldLemmas
 pub mod OrderLemmas
 pub mod StandLemmas
+pub mod TickLemmas
 pub mod SubscribeLemmas
+pub mod CloseLemmas
 pub mod CountLemmas
 pub mod PublishLemmas
 pub mod Below

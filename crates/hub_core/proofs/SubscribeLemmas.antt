@@ -1,7 +1,7 @@
 -- Subscriptions that begin and end.
 use Rattle.hub_core.proofs.Below.{◌≡◌, ◌≤◌, ℕ, List, [], ◌∷◌, Option, Some, None, Bool, true, false, cond, not, ◌&&◌, nat_eq, length, refl, sym, ap, ◌∙◌, NoteValue, NetState, Why, server, entry_of, no_entry, is_gone, Progress, progress_at, standings_at, clash, by_cases, falsely, TableState, hub_of, nat_le, ◌⊎◌, inl, inr, MayRefuse, for_reason, for_memory, arith, nat_tests, NotOpen, BadTopic, Forbidden, TooMany, Memory, OrderValue, has_topic, ChangesTopics, is_open, every_topic, frames_of, Standing, first_reason, is_bad_topic, why_at, why_subscribe, why_unsubscribe, Ties, progress_obeys, Obeys, changed, IsHub, ServesOrder, TellingsState}
 use Rattle.hub_core.proofs.StateLemmas.{plain_change, topics_elsewhere}
-use Rattle.hub_core.proofs.CallLemmas.{Forgets, appends_forgotten}
+use Rattle.hub_core.proofs.CallLemmas.{Forgets, appends_stay, stays_forgotten}
 use Rattle.hub_core.proofs.OrderLemmas.{open_alone}
 use Rattle.hub_core.proofs.StandLemmas.{present_open}
 
@@ -86,7 +86,7 @@ module _ (a : TableState) (p q : List (ℕ × List ℕ)) (r : TellingsState) (ne
       one false = refl
 
   obeyed : Obeys c order (server (hub_of a p r) net t) (server (hub_of a q r) net t)
-  obeyed = record { progress = progress_changed; tells = λ d. refl; counts = λ d there. (there, refl); net = refl; told = refl; appends = appends_forgotten forgets net t }
+  obeyed = record { progress = progress_changed; tells = λ d. refl; counts = λ d there. (there, refl); net = refl; told = refl; appends = appends_stay (stays_forgotten forgets) net t }
 
   pub topics_served : frames_of order ≡ [] → why_at a.config every_topic c (standings_at (hub_of a p r)) order ≡ None → Ties (server (hub_of a p r) net t) → ServesOrder c number order (server (hub_of a p r) net t) (server (hub_of a q r) net t)
   topics_served no_frame none ties = record {

@@ -7,5 +7,7 @@ pub mod Puts
 pub mod Sends
 pub mod Publishing
 pub mod Serving
+pub mod Closing
 pub mod Told
+pub mod Ticking
 pub mod All

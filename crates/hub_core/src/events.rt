@@ -22,14 +22,16 @@ use wire_meaning::{Opcode, opcode_number};
 use ws_kinds::{Conn, Left, Note, Phase, Watch};
 
 impl Hub {
-    /// Notes that so many octets, at least 1, were read of a connection in phase Head, Open or Leaving.
+    /// Notes that so many octets, at least 1, were read of a connection in phase Head, Open or Leaving. Its quiet ticks are counted
+    /// from 0 again, unless it is leaving.
     pub fn given<N: Net, W: Watch>(&mut self, out: &mut Outside<N, W>, conn: Conn, count: u64)
         requires phase { is_reading (phase_at self.old conn.0) ≡ true }
         requires some { 1 ≤ count }
         requires ties { Ties (at N.Net W.Watch self.old out.old) }
         ensures { GivesOctets conn.0 count (at N.Net W.Watch self.old out.old) (at N.Net W.Watch self.new out.new) }
     {
-        self.table.no_ticks();
+        let _ = &self.table;
+        self.hear(conn);
         out.watch.note(&Note::Given { conn, count });
     }
 

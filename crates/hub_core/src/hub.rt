@@ -56,6 +56,7 @@ impl Hub {
         ensures partings { IfOk result (λ hub. hub.partings ≡ []) }
         ensures tellings { IfOk result (λ hub. hub.tellings ≡ []) }
         ensures settled { IfOk result (λ hub. Settled hub) }
+        ensures table { IfOk result (λ hub. IsTable (table_of hub)) }
     {
         Ok(Hub {
             table: Connections::new(alloc, config)?,

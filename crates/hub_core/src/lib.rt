@@ -1,6 +1,7 @@
 //! A hub: all connections of a server, what is put for each, and the events of which the handler is to be told.
 #![tactic(auto)]
 
+mod closing;
 mod events;
 mod hub;
 mod offers;
@@ -9,6 +10,7 @@ mod publishing;
 mod puts;
 mod rows;
 mod subscriptions;
+mod ticking;
 mod told;
 mod turns;
 

@@ -58,6 +58,11 @@ impl Hub {
     /// topic has no octets or more than 64, as `TooMany` where it would be the connection's sixty-fifth topic, and as `Memory`
     /// where there was too little; a topic that is there already stays. To unsubscribe is refused as `NotOpen` and `BadTopic`
     /// alike; where the topic is not there, nothing changes.
+    ///
+    /// To close is refused as `NotOpen` where the event's connection is not open, and as `BadCode` where the code may not be
+    /// sent, or the reason has more than 123 octets or is not UTF-8. One that is served makes the connection leave: its topics
+    /// end, its Closed event is due with the order's code and reason, and its close frame is put (RFC 6455, section 5.5.1). So
+    /// it is also where its link fails in that very write, and the connection is gone then.
     pub fn perform<N: Net, W: Watch>(
         &mut self,
         out: &mut Outside<N, W>,
@@ -93,6 +98,7 @@ impl Hub {
             Order::Publish { topic, kind, body } => self.serve_publish(
                 out, conn, number, topic, kind, body,
             ),
+            Order::Close { code, reason } => self.serve_close(out, conn, number, code, reason),
         }
     }
 

@@ -78,7 +78,7 @@ impl Hub {
         ensures { Ends conn.0 code reason.now result self.old self.new }
     {
         if self.table.phase(conn) == Some(Phase::Open) {
-            self.table.close(conn, code, reason);
+            self.table.close(conn, Phase::Ending, code, reason);
             self.topics.drop_conn(conn);
             return true;
         }

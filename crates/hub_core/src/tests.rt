@@ -1,12 +1,14 @@
 //! Each call of a hub, over nets in memory.
 
 mod calls;
+mod closes;
 mod failing_net;
 mod rows;
 pub mod scene;
 mod senders;
 mod topics;
 
+use closes::CLOSES;
 use rows::CALLS;
 use scene::first_other;
 use std::test::*;
@@ -35,5 +37,6 @@ const NINE: Conn = Conn(9);
 fn each_call_does_what_the_rows_say(rt: HostRuntime) -> Result<(), Fail> {
     assert_eq!(rt; first_other(&rt, CALLS)?, None);
     assert_eq!(rt; first_other(&rt, TOPICS)?, None);
+    assert_eq!(rt; first_other(&rt, CLOSES)?, None);
     Ok(())
 }

@@ -1,14 +1,12 @@
-//! Ticks, and the end of a turn.
+//! The end of a turn.
 
-ghost use Rattle.std.specs.Prelude.{◌≡◌, [], ◌∷◌};
+ghost use Rattle.std.specs.Prelude.{◌≡◌};
 ghost use Rattle.ws_kinds.specs.declared.note.Phase.TheVariants.{Ending};
-ghost use Rattle.ws_kinds.specs.NoteValue as note;
 ghost use Rattle.hub_lines.specs.State.{server, entry_at};
 ghost use Rattle.hub_lines.specs.Calls.{Ties, SameLinesElsewhere, Settled, nothing};
 ghost use Rattle.hub_notes.specs.Calls.{Appends};
 ghost use Rattle.hub_core.specs.At.{at};
 ghost use Rattle.hub_notes.specs.Table.{IsTable, table_of};
-ghost use Rattle.hub_notes.specs.Answers.{Makes};
 ghost use Rattle.hub_notes.specs.Turns.{EndsTurn, FinishesIfEmpty};
 
 use crate::Hub;
@@ -16,19 +14,6 @@ use link_trait::{Net, Outside};
 use ws_kinds::{Conn, Left, Note, Watch};
 
 impl Hub {
-    /// Notes that time went by: one tick.
-    pub fn tick<N: Net, W: Watch>(&mut self, out: &mut Outside<N, W>)
-        requires ties { Ties (at N.Net W.Watch self.old out.old) }
-        ensures ties { Ties (at N.Net W.Watch self.new out.new) }
-        ensures makes { Makes (note.tick ∷ []) (at N.Net W.Watch self.old out.old) (at N.Net W.Watch self.new out.new) }
-        ensures appends { Appends nothing (at N.Net W.Watch self.old out.old) (at N.Net W.Watch self.new out.new) }
-        ensures named { self.new.named ≡ self.old.named }
-        ensures table { IsTable (table_of self.new) }
-    {
-        let _ = &self.table;
-        out.watch.note(&Note::Tick);
-    }
-
     /// Ends a turn: each connection in phase Ending for which nothing is held is gone, as finished, in the order of their
     /// numbers. Then the turn is noted. Nothing is pending after it, and the cork is empty.
     pub fn end_turn<N: Net, W: Watch>(&mut self, out: &mut Outside<N, W>)

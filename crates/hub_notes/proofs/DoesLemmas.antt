@@ -117,6 +117,17 @@ does_notes texts ns f a b x fails app items = record {
   appends = appends_as f (appended_by texts (of_notes ns) (standings_at a.hub)) a b app items;
 }
 
+-- what a call does whose steps are notes
+pub advances_does : (texts : ℕ → List ℕ) (ns : List NoteValue) (a b : Server) → Does texts (of_notes ns) a b → Advances ns a b
+advances_does texts ns a b x = record {
+  told = subst (λ (z : List NoteValue). AreNoted a.told z b.told) (notes_of-notes ns) x.told;
+  may_come = λ c. sym (notes_may c ns (progress_at a.hub c)) ∙ x.may_come c;
+  progress = λ c. x.progress c ∙ notes_step c ns (progress_at a.hub c);
+  tells = subst (λ (z : List NoteValue). TellsBy z a.hub b.hub) (notes_of-notes ns) x.tells;
+  counts = subst (λ (z : List NoteValue). CountsBeside z a.hub b.hub) (notes_of-notes ns) x.counts;
+  net = subst (λ (z : List NoteValue). NetAfter z a.net b.net) (notes_of-notes ns) x.net;
+}
+
 -- ---- orders
 
 -- what an order appends for each connection

@@ -18,8 +18,9 @@ pub use Rattle.hub_notes.specs.Fronts.{KeepsFront, KeepsFronts, RingsWait, SameD
 pub use Rattle.hub_notes.specs.NetAfter.{FailsAfter, NetAfter, RoseBy, TrafficAfter}
 pub use Rattle.hub_notes.specs.NextTold.{IsNextTold, NoneToTell, TakesTold, news_at}
 pub use Rattle.hub_notes.specs.Progress.{Progress, due_at, due_of, may_all_come, may_all_step, may_come, may_leave_by, may_step, progress_after, progress_after_all, progress_at, progress_by, progress_by_step, progress_by_steps, progress_obeys, standing_in, standings_at, topics_at}
-pub use Rattle.hub_notes.specs.Quiet.{CountsBeside, CountsBy, SameCounts, count_of, counts_at, leaves_at}
+pub use Rattle.hub_notes.specs.Quiet.{CountsBeside, CountsBy, SameCounts, count_of, counts_at, end_due_at, leaves_at, next_count, ping_due_at}
 pub use Rattle.hub_notes.specs.Serving.{Obeys, Serves, ServesAll}
-pub use Rattle.hub_notes.specs.Table.{AreAbove, AreRising, ChangesOne, IsNextEnding, IsTable, TableState, TakesDue, due_when_gone, is_kept, table_of}
+pub use Rattle.hub_notes.specs.Table.{AreAbove, AreRising, ChangesOne, IsNextEnding, IsNextEntry, IsTable, TableState, TakesDue, due_when_gone, is_kept, table_of}
 pub use Rattle.hub_notes.specs.Tells.{EndsTelling, TellsBy, held_in, tell_at, tell_in, tell_of}
+pub use Rattle.hub_notes.specs.Ticks.{Ticks, is_of_tick}
 pub use Rattle.hub_notes.specs.Turns.{EndsTurn, FinishesIfEmpty, FinishesOne, Offers, Rise, finishes}

@@ -7,6 +7,7 @@ pub mod Fronts
 pub mod Calls
 pub mod Serving
 pub mod Table
+pub mod Ticks
 pub mod Answers
 pub mod Turns
 pub mod All

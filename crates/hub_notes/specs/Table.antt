@@ -1,8 +1,8 @@
 -- The table of a hub's connections.
-use Rattle.std.specs.Prelude.{◌≡◌, ◌≢◌, ◌<◌, ◌≤◌, ⊤, ℕ, List, [], ◌∷◌, Option, Some, None, Bool, true, not, is_some, ◌||◌, length, if◌then◌else◌}
+use Rattle.std.specs.Prelude.{◌≡◌, ◌≢◌, ◌<◌, ◌≤◌, ⊤, ℕ, List, [], ◌∷◌, Option, Some, None, Bool, true, false, not, is_some, ◌||◌, length, if◌then◌else◌}
 use Rattle.ws_kinds.specs.declared.note.Phase.{Phase}
 use Rattle.ws_kinds.specs.declared.note.Phase.TheVariants.{Head, Ending}
-use Rattle.ws_kinds.specs.ConfigValue.{ConfigValue}
+use Rattle.ws_kinds.specs.ConfigValue.{ConfigValue, IsConfig}
 use Rattle.run_meaning.specs.Lines.{is_open}
 use Rattle.hub_lines.specs.State.{HubState, Entry, PartingValue, no_entry, entry_of, has_entry, is_gone, most_held_in}
 use Rattle.hub_notes.specs.Progress.{due_of}
@@ -35,6 +35,8 @@ is_kept entries partings conn = not (is_gone (entry_of entries conn).phase) || i
 
 -- what holds of a table
 pub record IsTable (table : TableState) : Type 0 where
+  -- its numbers are those of a configuration
+  pub numbers : IsConfig table.config
   pub rising : AreRising table.entries
   -- the numbers are among those that were accepted, which begin at 1
   pub first : (conn : ℕ) → has_entry table.entries conn ≡ true → 1 ≤ conn
@@ -68,6 +70,11 @@ abbrev pub IsNextEnding : List Entry → ℕ → Option ℕ → Type 0
 IsNextEnding entries after None = (conn : ℕ) → after < conn → (entry_of entries conn).phase ≢ Ending
 IsNextEnding entries after (Some conn) = (after < conn) × ((entry_of entries conn).phase ≡ Ending)
     × ((other : ℕ) → after < other → other < conn → (entry_of entries other).phase ≢ Ending)
+
+-- the least entry above `after`, if there is one
+abbrev pub IsNextEntry : List Entry → ℕ → Option ℕ → Type 0
+IsNextEntry entries after None = (conn : ℕ) → after < conn → has_entry entries conn ≡ false
+IsNextEntry entries after (Some conn) = (after < conn) × (has_entry entries conn ≡ true) × ((other : ℕ) → after < other → other < conn → has_entry entries other ≡ false)
 
 -- the Closed event of the least connection for which one is due, if there is one; it is due no more
 abbrev pub TakesDue : Option PartingValue → TableState → TableState → Type 0

@@ -1,5 +1,5 @@
 -- What each change of one connection makes of the table.
-use Rattle.hub_table.proofs.Below.{goes_on, ◌≤◌, ◌+◌, most_held, most_held_in, ◌≡◌, ◌≢◌, ◌<◌, ℕ, List, [], ◌∷◌, ◌++◌, Option, Some, None, Bool, true, false, if◌then◌else◌, not, length, refl, sym, ap, ◌∙◌, subst, length-append, arith, is_some, option_map, Phase, Head, Open, Leaving, Ending, Gone, ConfigValue, is_open, Entry, PartingValue, no_entry, new_entry, has_entry, entry_of, is_gone, present_entry, due_of, can_enter, Connection, Parting, parting_value, AreRising, ChangesOne, TakesDue, due_when_gone, no_connection, connection_of, replaced, without, entries_of, put_before, partings_of, cause, with_socket, entered, parted, told, IsOwn, IsConnection, AreKept, table_state, max, joined, TableState, length_one}
+use Rattle.hub_table.proofs.Below.{goes_on, ◌≤◌, ◌+◌, most_held, most_held_in, ◌≡◌, ◌≢◌, ◌<◌, ℕ, List, [], ◌∷◌, ◌++◌, Option, Some, None, Bool, true, false, if◌then◌else◌, not, length, refl, sym, ap, ◌∙◌, subst, length-append, arith, is_some, option_map, Phase, Head, Open, Leaving, Ending, Gone, ConfigValue, is_leaving, is_open, Quiet, QuietCount, counts_of, Entry, PartingValue, no_entry, new_entry, has_entry, entry_of, is_gone, present_entry, due_of, can_enter, Connection, Parting, parting_value, AreRising, ChangesOne, TakesDue, due_when_gone, no_connection, connection_of, replaced, without, entries_of, put_before, partings_of, cause, with_socket, entered, parted, told, IsOwn, IsConnection, AreKept, table_state, max, joined, TableState, length_one}
 use Rattle.hub_table.proofs.ConnectionLemmas.{Becomes, becomes_replaced, becomes_without, entry_becomes, due_becomes, changes_one, each_of, each_added, rising_last, entries_added, length_entries, entry_is, due_is, own_number, there_replaced}
 use Rattle.hub_table.proofs.IndexLemmas.{IsFirstDue}
 
@@ -104,6 +104,14 @@ entered_unused : (ring : List ℕ) (b : Bool) → ring ≡ [] → (if b then [] 
 entered_unused ring true e = refl
 entered_unused ring false e = e
 
+-- who leaves Open does not go back, and is not gone
+pub left_open : (p : Phase) → is_leaving (Some p) ≡ true → (can_enter Open p ≡ true) × (p ≢ Head) × (is_gone p ≡ false)
+left_open Leaving e = (refl, λ h. let z : Leaving ≡ Head = h in cc, refl)
+left_open Ending e = (refl, λ h. let z : Ending ≡ Head = h in cc, refl)
+left_open Head e = cc
+left_open Open e = cc
+left_open Gone e = cc
+
 becomes_by : (g : ConfigValue) (n c : ℕ) (xs ys : List Connection) (y : Connection) → AreKept g n xs → has_entry (entries_of xs) c ≡ true → y.socket.conn ≡ c → IsConnection g n y → ys ≡ replaced xs c y → Becomes g n c xs ys y
 becomes_by g n c xs ys y k there own each e = subst (λ w. Becomes g n c xs w y) (sym e) (becomes_replaced g n c xs y k there own each)
 
@@ -122,7 +130,6 @@ becomes_entered {g} {n} {xs} {ys} c p k there step head due e =
       bound = entered_bound g (connection_of xs c).socket.phase p (connection_of xs c).socket.ring (is_gone p) refl step was.bound;
       gone = entered_gone (connection_of xs c).socket.ring (is_gone p);
       unused = λ none. entered_unused (connection_of xs c).socket.ring (is_gone p) (was.unused none);
-      quiet = was.quiet;
     }) e
 
 pub becomes_parted : {g : ConfigValue} {n : ℕ} {xs ys : List Connection} (c : ℕ) (p : Phase) (m : Parting) → AreKept g n xs → has_entry (entries_of xs) c ≡ true → can_enter (connection_of xs c).socket.phase p ≡ true → p ≢ Head → m.conn.0 ≡ c
@@ -140,13 +147,12 @@ becomes_parted {g} {n} {xs} {ys} c p m k there step head own e =
       bound = entered_bound g (connection_of xs c).socket.phase p (connection_of xs c).socket.ring (is_gone p) refl step was.bound;
       gone = entered_gone (connection_of xs c).socket.ring (is_gone p);
       unused = λ none. entered_unused (connection_of xs c).socket.ring (is_gone p) (was.unused none);
-      quiet = was.quiet;
     }) e
 
 pub becomes_put : {g : ConfigValue} {n : ℕ} {xs ys : List Connection} (c : ℕ) (s : Entry) → AreKept g n xs → has_entry (entries_of xs) c ≡ true
     → s.conn ≡ (connection_of xs c).socket.conn → s.config ≡ (connection_of xs c).socket.config → s.phase ≡ (connection_of xs c).socket.phase → (s.phase ≡ Head → s.numbered ≡ 0)
-    → length s.ring ≤ most_held_in g s.phase → (is_gone s.phase ≡ true → s.ring ≡ []) → (s.numbered ≡ 0 → s.ring ≡ []) → s.quiet ≡ (connection_of xs c).socket.quiet → ys ≡ replaced xs c (with_socket (connection_of xs c) s) → Becomes g n c xs ys (with_socket (connection_of xs c) s)
-becomes_put {g} {n} {xs} {ys} c s k there conn config phase head bound gone unused quiet e =
+    → length s.ring ≤ most_held_in g s.phase → (is_gone s.phase ≡ true → s.ring ≡ []) → (s.numbered ≡ 0 → s.ring ≡ []) → ys ≡ replaced xs c (with_socket (connection_of xs c) s) → Becomes g n c xs ys (with_socket (connection_of xs c) s)
+becomes_put {g} {n} {xs} {ys} c s k there conn config phase head bound gone unused e =
     let was = each_of g n xs c k.each there in
     becomes_by g n c xs ys (with_socket (connection_of xs c) s) k there (conn ∙ own_number xs c there)
     (record {
@@ -159,15 +165,30 @@ becomes_put {g} {n} {xs} {ys} c s k there conn config phase head bound gone unus
       bound = bound;
       gone = gone;
       unused = unused;
-      quiet = quiet ∙ was.quiet;
     }) e
+
+-- what a tick makes due, read of a connection as of its entry
+pub due_read : {g : ConfigValue} {n : ℕ} {xs : List Connection} {table : TableState} (c : ℕ) (due : ConfigValue → Option Phase → QuietCount → Bool) → AreKept g n xs → has_entry (entries_of xs) c ≡ true → table_state g n xs ≡ table
+    → due (connection_of xs c).socket.config (Some (connection_of xs c).socket.phase) (counts_of (connection_of xs c).socket) ≡ due table.config (Some (entry_of table.entries c).phase) (counts_of (entry_of table.entries c))
+due_read {g} {n} {xs} {table} c due k there view =
+    let own = each_of g n xs c k.each there in
+    ap (λ (z : ConfigValue). due z (Some (connection_of xs c).socket.phase) (counts_of (connection_of xs c).socket)) own.config
+    ∙ ap (λ (z : Entry). due g (Some z.phase) (counts_of z)) (sym (entry_is xs c))
+    ∙ ap (λ (z : TableState). due z.config (Some (entry_of z.entries c).phase) (counts_of (entry_of z.entries c))) view
+
+-- its counts of ticks changed
+pub becomes_counted : {g : ConfigValue} {n : ℕ} {xs ys : List Connection} (c : ℕ) (q : Quiet) → AreKept g n xs → has_entry (entries_of xs) c ≡ true
+    → ys ≡ replaced xs c (with_socket (connection_of xs c) (record (connection_of xs c).socket { quiet = q })) → Becomes g n c xs ys (with_socket (connection_of xs c) (record (connection_of xs c).socket { quiet = q }))
+becomes_counted {g} {n} {xs} {ys} c q k there e =
+    let was = each_of g n xs c k.each there in
+    becomes_put c (record (connection_of xs c).socket { quiet = q }) k there refl refl refl was.head was.bound was.gone was.unused e
 
 pub becomes_told : {g : ConfigValue} {n : ℕ} {xs ys : List Connection} (c : ℕ) → AreKept g n xs → has_entry (entries_of xs) c ≡ true → is_gone (connection_of xs c).socket.phase ≡ false
     → ys ≡ replaced xs c (told (connection_of xs c)) → Becomes g n c xs ys (told (connection_of xs c))
 becomes_told {g} {n} {xs} {ys} c k there here e =
     let was = each_of g n xs c k.each there in
     becomes_by g n c xs ys (told (connection_of xs c)) k there (own_number xs c there)
-    (record { first = was.first; among = was.among; config = was.config; head = was.head; own = tt {0}; due = λ h. absurd (let z : false ≡ true = sym here ∙ h in cc); bound = was.bound; gone = was.gone; unused = was.unused; quiet = was.quiet }) e
+    (record { first = was.first; among = was.among; config = was.config; head = was.head; own = tt {0}; due = λ h. absurd (let z : false ≡ true = sym here ∙ h in cc); bound = was.bound; gone = was.gone; unused = was.unused }) e
 
 pub becomes_forgotten : {g : ConfigValue} {n : ℕ} {xs ys : List Connection} (c : ℕ) → AreKept g n xs → ys ≡ without xs c → Becomes g n c xs ys no_connection
 becomes_forgotten {g} {n} {xs} {ys} c k e = subst (λ w. Becomes g n c xs w no_connection) (sym e) (becomes_without g n c xs k)
@@ -206,8 +227,9 @@ becomes_added {g} {n} {xs} {ys} c k new room e =
     let size = length_entries xs in
     subst (AreKept g c) (sym e) (record {
       rising = subst (λ z. AreRising z) (sym (entries_added xs y)) (rising_last xs y.socket k.rising (above_all g n c xs k new));
-      each = each_added g n c xs y (omega arith) (record { first = omega arith; among = omega arith; config = refl; head = λ h. refl; own = tt {0}; due = λ h. absurd (let z : false ≡ true = h in cc); bound = omega arith; gone = λ _. refl; unused = λ _. refl; quiet = refl }) k.each;
+      each = each_added g n c xs y (omega arith) (record { first = omega arith; among = omega arith; config = refl; head = λ h. refl; own = tt {0}; due = λ h. absurd (let z : false ≡ true = h in cc); bound = omega arith; gone = λ _. refl; unused = λ _. refl }) k.each;
       few = let a = length-append xs (y ∷ []) in omega arith;
+      numbers = k.numbers;
     })
 
 partings_added : (xs : List Connection) (y : Connection) → y.closed ≡ None → partings_of (xs ++ y ∷ []) ≡ partings_of xs

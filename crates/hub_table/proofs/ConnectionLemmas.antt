@@ -112,7 +112,7 @@ pub each_added : (g : ConfigValue) (n m : ℕ) (xs : List Connection) (y : Conne
 each_added g n m [] y l own all = (own, tt {0})
 each_added g n m (x ∷ xs) y l own all =
     let a = all.0 in let k = a.among in
-    (record { first = a.first; among = omega arith; config = a.config; head = a.head; own = a.own; due = a.due; bound = a.bound; gone = a.gone; unused = a.unused; quiet = a.quiet }, each_added g n m xs y l own all.1)
+    (record { first = a.first; among = omega arith; config = a.config; head = a.head; own = a.own; due = a.due; bound = a.bound; gone = a.gone; unused = a.unused }, each_added g n m xs y l own all.1)
 
 pub each_of : (g : ConfigValue) (n : ℕ) (xs : List Connection) (c : ℕ) → AreConnections g n xs → has_entry (entries_of xs) c ≡ true → IsConnection g n (connection_of xs c)
 each_of g n [] c all t = absurd (let z : false ≡ true = t in cc)
@@ -178,6 +178,7 @@ is_away g n xs c k t =
 
 pub is_table : {g : ConfigValue} {n : ℕ} {xs : List Connection} → AreKept g n xs → IsTable (table_state g n xs)
 is_table {g} {n} {xs} k = record {
+  numbers = k.numbers;
   rising = k.rising;
   first = λ c t. let own = each_of g n xs c k.each t in let a = own.first in
       let same : (connection_of xs c).socket.conn ≡ c = sym (ap (λ (z : Entry). z.conn) (entry_is xs c)) ∙ entry_conn (entries_of xs) c t in omega arith;
@@ -254,6 +255,7 @@ becomes_replaced g n c xs y k there own each = record {
     rising = rising_replaced xs c y own k.rising;
     each = each_replaced g n xs c y each k.each;
     few = let a = k.few in let b = length_replaced xs c y in omega arith;
+    numbers = k.numbers;
   };
   here = replaced_here xs c y there own;
   elsewhere = λ d ne. replaced_elsewhere xs c d y ne own;
@@ -265,6 +267,7 @@ becomes_without g n c xs k = record {
     rising = rising_without xs c k.rising;
     each = each_without g n xs c k.each;
     few = let a = k.few in let b = length_without xs c in omega arith;
+    numbers = k.numbers;
   };
   here = nothing_of (without xs c) c (without_here xs c k.rising);
   elsewhere = λ d ne. without_elsewhere xs c d ne;

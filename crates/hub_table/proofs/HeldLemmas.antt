@@ -31,9 +31,3 @@ read_held xs c x q = ap (λ (z : Connection). length z.socket.ring) (found_is xs
 
 pub none_held : (xs : List Connection) (c : ℕ) → None ≡ connection_in xs c → 0 ≡ length (entry_of (entries_of xs) c).ring
 none_held xs c q = sym (ap (λ (z : Entry). length z.ring) (none_of (entries_of xs) c (missed_is xs c q)))
-
--- no ticks are counted for any connection
-pub no_tick : (g : ConfigValue) (n : ℕ) (xs : List Connection) → AreKept g n xs → (c : ℕ) → (entry_of (entries_of xs) c).quiet ≡ record { ticks = 0; leaving = 0 }
-no_tick g n xs k c = by_cases (has_entry (entries_of xs) c)
-    (λ there. let own = each_of g n xs c k.each there in ap (λ (z : Entry). z.quiet) (entry_is xs c) ∙ own.quiet)
-    (λ away. ap (λ (z : Entry). z.quiet) (none_of (entries_of xs) c away))

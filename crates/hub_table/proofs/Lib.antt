@@ -2,6 +2,7 @@ pub mod NumberLemmas
 pub mod ConnectionLemmas
 pub mod IndexLemmas
 pub mod MapLemmas
+pub mod RangeLemmas
 pub mod ChangeLemmas
 pub mod HeldLemmas
 pub mod Below

@@ -1,6 +1,6 @@
 -- Connections in a slab under the keys that a map has for their numbers: one written, added or taken out.
-use Rattle.hub_table.proofs.Below.{◌≡◌, ◌≢◌, ◌<◌, ◌≤◌, ℕ, ◌+◌, List, [], ◌∷◌, ◌++◌, Option, Some, None, Bool, true, false, cond, nat_eq, length, refl, sym, ap, ◌∙◌, subst, arith, suc, Greater, ◌||◌, is_some, if◌then◌else◌, length-append, IsSome, unwrap_or, nat_cmp, match_ordering, lookup, remove_entry, is_at, insert_entry, nat_tests, sum_by-set, Slab, get, slab_len, ContainsKey, with_value, Updates, ContainsKey-within, Updates-with_value, has_entry, AreRising, by_cases, clash, equal_is, is_equal, is_unequal, unequal_is, Connection, NumberSetState, added, removed, marked, no_connection, connection_of, connection_in, replaced, without, entries_of, is_due, ends, numbers_where, stored_at, listed, AreStored, IsIndexed}
-use Rattle.hub_table.proofs.ConnectionLemmas.{connection_first, connection_later, later_has, later_in, none_below, entries_added, rising_last, rising_replaced, rising_without, length_replaced, length_without}
+use Rattle.hub_table.proofs.Below.{◌≡◌, ◌≢◌, ◌<◌, ◌≤◌, ℕ, ◌+◌, List, [], ◌∷◌, ◌++◌, Option, Some, None, Bool, true, false, cond, nat_eq, length, refl, sym, ap, ◌∙◌, subst, arith, suc, Greater, ◌||◌, is_some, if◌then◌else◌, length-append, IsSome, unwrap_or, nat_cmp, match_ordering, lookup, remove_entry, is_at, insert_entry, nat_tests, sum_by-set, Slab, get, slab_len, ContainsKey, with_value, Updates, ContainsKey-within, Updates-with_value, has_entry, Entry, AreRising, IsNextEntry, IsNextKey, is_ending, with_socket, by_cases, clash, equal_is, is_equal, is_unequal, unequal_is, Connection, NumberSetState, added, removed, marked, no_connection, connection_of, connection_in, replaced, without, entries_of, is_due, ends, numbers_where, stored_at, listed, AreStored, IsIndexed}
+use Rattle.hub_table.proofs.ConnectionLemmas.{connection_first, connection_later, later_has, later_in, none_below, entries_added, rising_last, rising_replaced, rising_without, length_replaced, length_without, own_number}
 use Rattle.hub_table.proofs.IndexLemmas.{length_where, where_added, where_replaced, where_without, where_same}
 
 -- ---- the slab
@@ -169,6 +169,11 @@ module _ {s : Slab Connection} {ps : List (ℕ × ℕ)} {d e : NumberSetState} (
       let h = key_stored s ps c k i.stored at in
       h.0 ∙ ap Some h.2 ∙ sym (ap (λ (z : Bool). if z then Some (connection_of (listed s ps) c) else None) (sym (key_has s ps c i.stored) ∙ ap is_some at))
 
+  -- the next number is that of the next entry
+  pub next_entry : (a : ℕ) (r : Option ℕ) → IsNextKey ps a r → IsNextEntry (entries_of (listed s ps)) a r
+  next_entry a None none = λ c l. sym (key_has s ps c i.stored) ∙ ap is_some (none c l)
+  next_entry a (Some n) next = (next.0, sym (key_has s ps n i.stored) ∙ next.1, λ c l m. sym (key_has s ps c i.stored) ∙ ap is_some (next.2 c l m))
+
   pub found_none : (c : ℕ) → lookup (is_at (nat_cmp c)) ps ≡ None → None ≡ connection_in (listed s ps) c
   found_none c none = sym (ap (λ (z : Bool). if z then Some (connection_of (listed s ps) c) else None) (sym (key_has s ps c i.stored) ∙ ap is_some none))
 
@@ -207,6 +212,16 @@ module _ {s : Slab Connection} {ps : List (ℕ × ℕ)} {d e : NumberSetState} (
 
     pub ending_stays : (y : Connection) → has_entry (entries_of (listed s ps)) c ≡ true → y.socket.conn ≡ c → ends y ≡ ends (connection_of (listed s ps) c) → e.numbers ≡ marked e.numbers c (ends y)
     ending_stays y there own is = i.ending ∙ sym (where_same ends (listed s ps) c y own is) ∙ where_replaced ends (listed s ps) c y (ends y) i.rising there own refl ∙ sym (ap (λ ns. marked ns c (ends y)) i.ending)
+
+    -- its socket changed, but for its number and its phase
+    pub socket_written : {t : Slab Connection} (f : Entry → Entry) → ((x : Entry) → (f x).conn ≡ x.conn) → ((x : Entry) → (f x).phase ≡ x.phase) → has_entry (entries_of (listed s ps)) c ≡ true
+        → t ≡ with_value s k (with_socket (stored_at s k) (f (stored_at s k).socket)) → IsIndexed t ps d e × (listed t ps ≡ replaced (listed s ps) c (with_socket (connection_of (listed s ps) c) (f (connection_of (listed s ps) c).socket)))
+    socket_written {t} f number phase there is =
+        let x = connection_of (listed s ps) c in
+        let y : Connection = with_socket x (f x.socket) in
+        let own : y.socket.conn ≡ c = number x.socket ∙ own_number (listed s ps) c there in
+        index_written y (is ∙ ap (λ (z : Connection). with_value s k (with_socket z (f z.socket))) stored_of) own there
+        (due_stays y there own refl) refl (ending_stays y there own (ap is_ending (phase x.socket))) refl
 
     -- the connection was taken out
     pub index_removed : {t : Slab Connection} {qs : List (ℕ × ℕ)} {f g : NumberSetState} → Updates s t k None → slab_len t + 1 ≡ slab_len s → t.capacity ≡ s.capacity → qs ≡ remove_entry (is_at (nat_cmp c)) ps → length qs + 1 ≡ length ps

@@ -2,7 +2,7 @@
 use Rattle.std.specs.Prelude.{◌≡◌, ◌≢◌, ◌≤◌, ◌+◌, ◌-◌, ◌^◌, min, ⊤, ℕ, List, [], ◌∷◌, Option, Some, None, Bool, true, false, is_some, length, nat_eq, if◌then◌else◌}
 use Rattle.ws_kinds.specs.declared.note.Phase.{Phase}
 use Rattle.ws_kinds.specs.declared.note.Phase.TheVariants.{Head, Ending}
-use Rattle.ws_kinds.specs.ConfigValue.{ConfigValue}
+use Rattle.ws_kinds.specs.ConfigValue.{ConfigValue, IsConfig}
 use Rattle.hub_lines.specs.State.{Entry, PartingValue, no_entry, has_entry, is_gone, most_held_in}
 use Rattle.socket_core.specs.Phases.{entered as goes_on}
 use Rattle.hub_table.specs.declared.connection.Connection.{Connection}
@@ -110,8 +110,6 @@ pub record IsConnection (numbers : ConfigValue) (greatest : ℕ) (connection : C
   pub bound : length connection.socket.ring ≤ most_held_in numbers connection.socket.phase
   pub gone : is_gone connection.socket.phase ≡ true → connection.socket.ring ≡ []
   pub unused : connection.socket.numbered ≡ 0 → connection.socket.ring ≡ []
-  -- no ticks are counted yet
-  pub quiet : connection.socket.quiet ≡ record { ticks = 0; leaving = 0 }
 
 -- this holds of each of them
 abbrev pub AreConnections : ConfigValue → ℕ → List Connection → Type 0
@@ -123,3 +121,5 @@ pub record AreKept (config : ConfigValue) (greatest : ℕ) (all : List Connectio
   pub rising : AreRising (entries_of all)
   pub each : AreConnections config greatest all
   pub few : length all ≤ config.max_conns
+  -- the numbers are those of a configuration
+  pub numbers : IsConfig config

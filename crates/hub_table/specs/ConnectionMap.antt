@@ -1,5 +1,8 @@
 -- Connections in a slab, found by their numbers, and the numbers of those that are due or ending.
-use Rattle.std.specs.Prelude.{◌≡◌, ◌≤◌, ⊤, ℕ, List, [], ◌∷◌, Some, length}
+use Rattle.std.specs.Prelude.{◌≡◌, ◌<◌, ◌≤◌, ⊤, ℕ, List, [], ◌∷◌, Option, Some, None, true, is_some, length}
+use Rattle.std.specs.BTreeMap.{is_at}
+use Rattle.std.specs.Map.{lookup}
+use Rattle.std.specs.Ordering.{nat_cmp}
 use Rattle.std.specs.Option.{unwrap_or}
 use Rattle.slab.specs.Slab.{Slab, get, slab_len}
 use Rattle.hub_notes.specs.Table.{AreRising}
@@ -28,6 +31,12 @@ listed slab (pair ∷ rest) = stored_at slab pair.1 ∷ listed slab rest
 abbrev pub AreStored : Slab Connection → List (ℕ × ℕ) → Type 0
 AreStored slab [] = ⊤
 AreStored slab (pair ∷ rest) = ((get slab pair.1 ≡ Some (stored_at slab pair.1)) × ((stored_at slab pair.1).socket.conn ≡ pair.0)) × AreStored slab rest
+
+-- the least number above `after` of these pairs, if there is one
+abbrev pub IsNextKey : List (ℕ × ℕ) → ℕ → Option ℕ → Type 0
+IsNextKey pairs after None = (number : ℕ) → after < number → lookup (is_at (nat_cmp number)) pairs ≡ None
+IsNextKey pairs after (Some next) = (after < next) × (is_some (lookup (is_at (nat_cmp next)) pairs) ≡ true)
+    × ((number : ℕ) → after < number → number < next → lookup (is_at (nat_cmp number)) pairs ≡ None)
 
 -- what holds of the slab, the pairs of numbers and keys, and the two sets of numbers
 pub record IsIndexed (slab : Slab Connection) (pairs : List (ℕ × ℕ)) (due_set ending_set : NumberSetState) : Type 0 where

@@ -1,11 +1,14 @@
 //! Changes of one connection among all.
 
-ghost use Rattle.std.specs.Prelude.{◌≡◌, ◌≢◌, ◌≤◌, ◌+◌, ◌&&◌, nat_lt, [], ◌∷◌, true, false, length};
+ghost use Rattle.std.specs.Prelude.{◌≡◌, ◌≢◌, ◌≤◌, ◌+◌, ◌&&◌, nat_lt, [], ◌∷◌, true, false, Some, length};
 ghost use Rattle.slab.specs.Slab.{ContainsKey, with_value};
 ghost use Rattle.socket_core.specs.Items.{IsPuttable, octets_of, can_drop};
 ghost use Rattle.socket_core.specs.Puts.{CountsRinged, OffersOnce, PassesOctets, is_drop};
-ghost use Rattle.hub_lines.specs.State.{most_held};
+ghost use Rattle.idle_close.specs.QuietValue.{is_ping, is_gone as is_end};
+ghost use Rattle.run_meaning.specs.Timely.{is_ping_due, is_end_due};
+ghost use Rattle.hub_lines.specs.State.{is_gone, most_held};
 ghost use Rattle.socket_core.specs.Phases.{can_enter};
+ghost use Rattle.socket_core.specs.Timed.{counts_of, heard_socket, ticked_socket};
 ghost use Rattle.hub_table.specs.Parting.{parting_value};
 ghost use Rattle.hub_table.specs.Connection.{entered, parted, told, with_socket, is_ending};
 ghost use Rattle.hub_table.specs.ConnectionMap.{stored_at};
@@ -13,6 +16,7 @@ ghost use Rattle.hub_table.specs.ConnectionMap.{stored_at};
 use crate::connection::Connection;
 use crate::parting::Parting;
 use arrayvec::ArrayVec;
+use idle_close::Due;
 use link_trait::{Net, Outside};
 use slab::Slab;
 use socket_core::{Item, Kept};
@@ -46,6 +50,28 @@ pub fn enter(connections: &mut Slab<Connection>, key: usize, phase: Phase)
     ensures { connections.new ≡ with_value connections.old key (entered (stored_at connections.old key) phase) }
 {
     connections[key].socket.enter(phase);
+}
+
+/// Octets of the connection under this key were read.
+pub fn heard(connections: &mut Slab<Connection>, key: usize)
+    requires there { ContainsKey connections.old key }
+    requires present { is_gone (stored_at connections.old key).socket.phase ≡ false }
+    ensures { connections.new ≡ with_value connections.old key (with_socket (stored_at connections.old key) (heard_socket (stored_at connections.old key).socket)) }
+{
+    connections[key].socket.heard();
+}
+
+/// Counts one more tick of the connection under this key, and says what it makes due.
+pub fn tick(connections: &mut Slab<Connection>, key: usize) -> Due
+    requires there { ContainsKey connections.old key }
+    requires present { is_gone (stored_at connections.old key).socket.phase ≡ false }
+    ensures ping { is_ping result ≡
+        is_ping_due (stored_at connections.old key).socket.config (Some (stored_at connections.old key).socket.phase) (counts_of (stored_at connections.old key).socket) }
+    ensures end { is_end result ≡
+        is_end_due (stored_at connections.old key).socket.config (Some (stored_at connections.old key).socket.phase) (counts_of (stored_at connections.old key).socket) }
+    ensures slab { connections.new ≡ with_value connections.old key (with_socket (stored_at connections.old key) (ticked_socket (stored_at connections.old key).socket)) }
+{
+    connections[key].socket.tick()
 }
 
 /// The connection under this key goes on to a phase, and this Closed event is due for it.

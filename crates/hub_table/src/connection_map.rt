@@ -4,10 +4,15 @@ ghost use Rattle.std.specs.Prelude.{◌≡◌, ◌≢◌, ◌<◌, ◌++◌, ◌
 ghost use Rattle.std.specs.Option.{option_map};
 ghost use Rattle.std.specs.Ordering.{nat_cmp};
 ghost use Rattle.std.specs.BTreeMap.{get};
-ghost use Rattle.hub_lines.specs.State.{has_entry, most_held};
+ghost use Rattle.idle_close.specs.QuietValue.{is_ping, is_gone as is_end};
+ghost use Rattle.run_meaning.specs.Timely.{is_ping_due, is_end_due};
+ghost use Rattle.hub_lines.specs.State.{has_entry, is_gone, most_held};
+ghost use Rattle.hub_notes.specs.Table.{IsNextEntry};
+ghost use Rattle.socket_core.specs.Timed.{counts_of, heard_socket, ticked_socket};
 ghost use Rattle.socket_core.specs.Items.{IsPuttable, octets_of, can_drop};
 ghost use Rattle.socket_core.specs.Puts.{CountsRinged, OffersOnce, PassesOctets, is_drop};
 ghost use Rattle.socket_core.specs.Phases.{can_enter};
+ghost use Rattle.hub_table.specs.ConnectionMap.{IsNextKey};
 ghost use Rattle.hub_table.specs.NumberSet.{first_of, first_above};
 ghost use Rattle.hub_table.specs.Connection.{connection_of, connection_in, entries_of, replaced, without, entered, parted, told, with_socket, is_due, ends, is_ending, numbers_where};
 
@@ -15,12 +20,14 @@ use crate::changes;
 use crate::connection::Connection;
 use crate::number_set::NumberSet;
 use crate::parting::Parting;
+use idle_close::Due;
 use link_trait::{Net, Outside};
 use slab::Slab;
 use socket_core::{Item, Kept, Socket};
 use std::alloc::{AllocError, Global};
 use std::collections::BTreeMap;
 use std::marker::Model;
+use std::ops::Bound;
 use ws_kinds::{Conn, Phase, Watch};
 
 /// The connections, each under a key of the slab, which the map finds by the connection's number. The numbers of those whose
@@ -120,6 +127,32 @@ impl ConnectionMap {
         self.ending.mark(conn.0, changes::is_ending(phase));
     }
 
+    /// Octets of a connection that is not gone were read.
+    pub fn heard(&mut self, conn: Conn)
+        requires there { has_entry (entries_of self.old.all) conn.0 ≡ true }
+        requires present { is_gone (connection_of self.old.all conn.0).socket.phase ≡ false }
+        ensures all { self.new.all ≡ replaced self.old.all conn.0 (with_socket (connection_of self.old.all conn.0) (heard_socket (connection_of self.old.all conn.0).socket)) }
+        ensures room { self.new.room ≡ self.old.room }
+    {
+        let key = key_of(&self.keys, conn);
+        changes::heard(&mut self.connections, key);
+    }
+
+    /// Counts one more tick of a connection that is not gone, and says what it makes due.
+    pub fn tick(&mut self, conn: Conn) -> Due
+        requires there { has_entry (entries_of self.old.all) conn.0 ≡ true }
+        requires present { is_gone (connection_of self.old.all conn.0).socket.phase ≡ false }
+        ensures ping { is_ping result ≡
+            is_ping_due (connection_of self.old.all conn.0).socket.config (Some (connection_of self.old.all conn.0).socket.phase) (counts_of (connection_of self.old.all conn.0).socket) }
+        ensures end { is_end result ≡
+            is_end_due (connection_of self.old.all conn.0).socket.config (Some (connection_of self.old.all conn.0).socket.phase) (counts_of (connection_of self.old.all conn.0).socket) }
+        ensures all { self.new.all ≡ replaced self.old.all conn.0 (with_socket (connection_of self.old.all conn.0) (ticked_socket (connection_of self.old.all conn.0).socket)) }
+        ensures room { self.new.room ≡ self.old.room }
+    {
+        let key = key_of(&self.keys, conn);
+        changes::tick(&mut self.connections, key)
+    }
+
     /// A connection goes on to a phase, and this Closed event is due for it.
     pub fn part(&mut self, conn: Conn, phase: Phase, parting: Parting)
         requires there { has_entry (entries_of self.old.all) conn.0 ≡ true }
@@ -211,6 +244,16 @@ impl ConnectionMap {
         }
     }
 
+    /// The least connection above `after`.
+    pub fn next(&self, after: Conn) -> Option<Conn>
+        ensures { IsNextEntry (entries_of self.now.all) after.0 (option_map (λ conn. conn.0) result) }
+    {
+        match next_number(&self.keys, after.0) {
+            Some(number) => Some(Conn(number)),
+            None => None,
+        }
+    }
+
     /// The least connection above `after` that is in phase Ending.
     pub fn next_ending(&self, after: Conn) -> Option<Conn>
         ensures { option_map (λ conn. conn.0) result ≡ first_above (numbers_where ends self.now.all) after.0 }
@@ -231,4 +274,14 @@ fn key_of(keys: &BTreeMap<u64, usize>, conn: Conn) -> usize
         Some(key) => *key,
         None => unreachable!(),
     }
+}
+
+/// The least number above this one.
+fn next_number(keys: &BTreeMap<u64, usize>, number: u64) -> Option<u64>
+    ensures { IsNextKey keys.now.entries number result }
+{
+    let (next, _) = keys
+        .range((Bound::Excluded(number), Bound::Unbounded))
+        .next()?;
+    Some(*next)
 }

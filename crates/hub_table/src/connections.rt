@@ -3,17 +3,22 @@
 ghost use Rattle.std.specs.Prelude.{◌≡◌, ◌≢◌, ◌+◌, ◌<◌, ◌≤◌, ◌++◌, ◌&&◌, nat_lt, [], ◌∷◌, true, false, length, IfOk, OnErr, OnOk, Some, None, nat_eq, if◌then◌else◌, ℕ};
 ghost use Rattle.std.specs.Option.{option_map};
 ghost use Rattle.ws_kinds.specs.ConfigValue.{IsConfig};
+ghost use Rattle.idle_close.specs.QuietValue.{is_ping, is_gone as is_end};
+ghost use Rattle.run_meaning.specs.Quiet.{is_leaving};
+ghost use Rattle.run_meaning.specs.Timely.{is_ping_due, is_end_due};
 ghost use Rattle.hub_lines.specs.State.{entry_of, has_entry, is_gone, most_held_in, new_entry};
 ghost use Rattle.hub_notes.specs.Progress.{due_of};
 ghost use Rattle.socket_core.specs.Items.{octets_of, can_drop, IsPuttable};
 ghost use Rattle.socket_core.specs.Phases.{can_enter};
+ghost use Rattle.socket_core.specs.Timed.{counts_of, heard_socket, ticked_socket};
 ghost use Rattle.socket_core.specs.Puts.{CountsRinged, OffersOnce, PassesOctets, is_drop};
 ghost use Rattle.hub_table.specs.Parting.{parting_value};
-ghost use Rattle.hub_notes.specs.Table.{IsTable, ChangesOne, due_when_gone, IsNextEnding, TakesDue};
+ghost use Rattle.hub_notes.specs.Table.{IsTable, ChangesOne, due_when_gone, IsNextEnding, IsNextEntry, TakesDue};
 
 use crate::changes;
 use crate::connection_map::ConnectionMap;
 use crate::parting::Parting;
+use idle_close::Due;
 use link_trait::{Net, Outside};
 use socket_core::{Item, Kept, Socket};
 use std::alloc::{AllocError, Global};
@@ -175,19 +180,21 @@ impl Connections {
         self.table.enter(conn, phase);
     }
 
-    /// An open connection is ending, and its Closed event is due, with this code and this reason of at most 123 octets: those of
-    /// the peer's close, or the code of a failure and no reason (RFC 6455, sections 7.1.5 and 7.1.6).
-    pub fn close(&mut self, conn: Conn, code: u16, reason: &[u8])
+    /// An open connection goes on to Leaving or Ending, and its Closed event is due, with this code and this reason of at most 123
+    /// octets: those with which the server closes it, those of the peer's close, or the code of a failure and no reason (RFC 6455,
+    /// sections 7.1.5 and 7.1.6).
+    pub fn close(&mut self, conn: Conn, phase: Phase, code: u16, reason: &[u8])
         requires open { (entry_of self.old.entries conn.0).phase ≡ Phase.Open }
+        requires left { is_leaving (Some phase) ≡ true }
         requires short { length reason.now ≤ 123 }
-        ensures entry { entry_of self.new.entries conn.0 ≡ record (entry_of self.old.entries conn.0) { phase = Phase.Ending } }
+        ensures entry { entry_of self.new.entries conn.0 ≡ record (entry_of self.old.entries conn.0) { phase = phase } }
         ensures there { has_entry self.new.entries conn.0 ≡ true }
         ensures table { IsTable self.new }
         ensures due { due_of self.new.partings conn.0 ≡ Some (code, reason.now) }
         ensures elsewhere { ChangesOne conn.0 self.old self.new }
     {
         let parting = changes::parting_of(conn, code, reason);
-        self.table.part(conn, Phase::Ending, parting);
+        self.table.part(conn, phase, parting);
     }
 
     /// A connection is gone. Where it was open, its Closed event is due, with the code 1006 (RFC 6455, section 7.1.5); an event
@@ -221,11 +228,31 @@ impl Connections {
         }
     }
 
-    /// Says that no ticks are counted for any connection yet. This is a law, and calls for nothing to be done.
-    pub fn no_ticks(&self)
-        ensures { (conn : ℕ) → (entry_of self.now.entries conn).quiet ≡ record { ticks = 0; leaving = 0 } }
+    /// Octets of a connection that is not gone were read: its quiet ticks are counted from 0 again, unless it is leaving.
+    pub fn heard(&mut self, conn: Conn)
+        requires present { is_gone (entry_of self.old.entries conn.0).phase ≡ false }
+        ensures entry { entry_of self.new.entries conn.0 ≡ heard_socket (entry_of self.old.entries conn.0) }
+        ensures there { has_entry self.new.entries conn.0 ≡ true }
+        ensures table { IsTable self.new }
+        ensures due { due_of self.new.partings conn.0 ≡ due_of self.old.partings conn.0 }
+        ensures elsewhere { ChangesOne conn.0 self.old self.new }
     {
-        let _ = &self.table;
+        self.table.heard(conn);
+    }
+
+    /// Counts one more tick of a connection that is not gone, and says what it makes due, as its socket does: a ping, its end, or
+    /// nothing.
+    pub fn tick(&mut self, conn: Conn) -> Due
+        requires present { is_gone (entry_of self.old.entries conn.0).phase ≡ false }
+        ensures ping { is_ping result ≡ is_ping_due self.old.config (Some (entry_of self.old.entries conn.0).phase) (counts_of (entry_of self.old.entries conn.0)) }
+        ensures end { is_end result ≡ is_end_due self.old.config (Some (entry_of self.old.entries conn.0).phase) (counts_of (entry_of self.old.entries conn.0)) }
+        ensures entry { entry_of self.new.entries conn.0 ≡ ticked_socket (entry_of self.old.entries conn.0) }
+        ensures there { has_entry self.new.entries conn.0 ≡ true }
+        ensures table { IsTable self.new }
+        ensures due { due_of self.new.partings conn.0 ≡ due_of self.old.partings conn.0 }
+        ensures elsewhere { ChangesOne conn.0 self.old self.new }
+    {
+        self.table.tick(conn)
     }
 
     /// The Closed event of the least connection for which one is due, and None where none is due for any. It is due no more;
@@ -239,6 +266,13 @@ impl Connections {
             return self.table.forget(conn);
         }
         self.table.take(conn)
+    }
+
+    /// The least connection above `after`, and None where there is none.
+    pub fn next(&self, after: Conn) -> Option<Conn>
+        ensures { IsNextEntry self.now.entries after.0 (option_map (λ conn. conn.0) result) }
+    {
+        self.table.next(after)
     }
 
     /// The least connection above `after` that is in phase Ending, and None where there is none.

@@ -41,7 +41,7 @@ fn open(table: &mut Connections, conn: Conn)
 /// The peer closes a connection that is open.
 fn close(table: &mut Connections, conn: Conn) {
     if let Some(Phase::Open) = table.phase(conn) {
-        table.close(conn, 1001, b"bye");
+        table.close(conn, Phase::Ending, 1001, b"bye");
     }
 }
 

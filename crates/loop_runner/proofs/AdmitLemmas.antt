@@ -1,12 +1,12 @@
 -- What is kept where the head of a request is judged.
-use Rattle.loop_runner.proofs.Below.{◌≡◌, ◌≤◌, ℕ, List, [], ◌∷◌, ◌++◌, Option, Some, None, Bool, true, false, ◌||◌, nat_eq, drop, length, is_some, refl, sym, ap, ◌∙◌, subst, append-nil, append_assoc, ConfigValue, Phase, Head, NoteValue, EventValue, reading, replied, RouteTable, Verdict, Judged, admit, refuse, undecided, answer_text, judged_stays, refusal_text, is_accepted, heard, last_frame, phase, world, AreAdmitted, AreReplies, is_opened, is_opened_in, list_any-append, texts_exist, by_cases, clash, is_same, Meaning, accepted_more, Server, phase_at, only, Proceeds, Appends, IsTable, table_of, Sends, HearsHead, HearsFrames, told_is, head_admitted, agrees_told_phase, admitted_longer, reply_of_opened, event_for, IntakeView, HearsAt, Kept, AreSound, sound_proceed, sound_serves, opened_given, shows_sound, known_world, waits_kept, refused_kept, shut_kept, Decision, More, Refuse, decision_seen, Beginning, meaning_of, with_view, ForNotes, KeptAll, ServesOrders, KeepsOne, told_proceed}
+use Rattle.loop_runner.proofs.Below.{◌≡◌, ◌≤◌, ℕ, List, [], ◌∷◌, ◌++◌, Option, Some, None, Bool, true, false, ◌||◌, nat_eq, drop, length, is_some, refl, sym, ap, ◌∙◌, subst, append-nil, append_assoc, ConfigValue, Phase, Head, NoteValue, EventValue, reading, replied, RouteTable, Verdict, Judged, admit, refuse, undecided, answer_text, judged_stays, refusal_text, is_accepted, heard, last_frame, phase, world, AreAdmitted, AreReplies, is_opened, is_opened_in, list_any-append, texts_exist, by_cases, clash, is_same, Meaning, accepted_more, Server, phase_at, only, Proceeds, Appends, IsTable, table_of, Sends, HearsHead, HearsFrames, told_is, head_admitted, agrees_told_phase, admitted_longer, reply_of_opened, event_for, IntakeView, HearsAt, Kept, AreSound, sound_proceed, sound_serves, opened_given, shows_sound, known_world, waits_kept, refused_kept, shut_kept, Decision, More, Refuse, decision_seen, Beginning, meaning_of, with_view, ForNotes, KeptAll, ServesOrders, KeepsOne, told_proceed, ticked_proceed}
 use Rattle.ws_kinds.specs.NoteValue as note
 use Rattle.ws_kinds.specs.EventValue as event
 use Rattle.run_meaning.specs.Life as life
 use Rattle.run_meaning.specs.Replies.{is_admitted}
 use Rattle.loop_runner.proofs.GrowLemmas.{grows_proceeds, grows_served, grows_then}
 use Rattle.loop_runner.proofs.OpenLemmas.{opens_sent, opens_served, outgoing_unopened}
-use Rattle.loop_runner.proofs.KeepLemmas.{admitted_on, few_front, holds_on, keep_on, keep_there, same_notes, sent_told, served_told}
+use Rattle.loop_runner.proofs.KeepLemmas.{admitted_on, few_front, holds_on, keep_on, keep_there, same_notes, sent_ticked, sent_told, served_ticked, served_told}
 use Rattle.loop_runner.proofs.ViewLemmas.{with_here, with_other, with_same}
 
 module _ {S : Type 0} (r : Meaning S) (config : ConfigValue) (table : RouteTable) (ns : List NoteValue) (conn : ℕ) (s : Server) (now : S) (views : ℕ → IntakeView) (reading : Option ℕ)
@@ -51,6 +51,7 @@ module _ {S : Type 0} (b : Beginning S) (conn : ℕ) where
           sound = x.sound;
           whole = x.whole;
           told = x.told;
+          ticked = x.ticked;
         });
   }
 
@@ -73,6 +74,7 @@ module _ {S : Type 0} (b : Beginning S) (conn : ℕ) where
           sound = subst (λ (z : List NoteValue). AreSound r b.config z) (ap (λ (z : List NoteValue). ns ++ note.head conn status ∷ z) (append-nil put.proceeds.sending) ∙ sym got.0) more.0;
           whole = put.table;
           told = sent_told r ns ms (note.head conn status) a d put.proceeds refl refl got.0 old.told;
+          ticked = sent_ticked r ns ms (note.head conn status) a d put.proceeds refl refl put.appends.lines.config got.0 old.ticked;
         });
   }
 
@@ -143,6 +145,7 @@ module _ {S : Type 0} (b : Beginning S) (conn : ℕ) where
                 sound = (sound_serves r b.config _ _ conn 0 (b.said next given) (ns ++ made) ms m d served told_m told more.1 (accepted_more conn ns made (head_accepted r b.config b.table ns conn a now views (Some conn) old.kept is old.sound)) more.0).0;
                 whole = whole;
                 told = served_told b replies (ns ++ made) ms conn (b.said next given) m d served told_m told (told_proceed r ns (n ∷ []) [] a m x refl refl refl refl old.told);
+                ticked = served_ticked b replies (ns ++ made) ms conn (b.said next given) m d served told_m told (ticked_proceed r ns (n ∷ []) [] a m x refl refl refl refl app.lines.config old.ticked);
               }) all;
         };
   }

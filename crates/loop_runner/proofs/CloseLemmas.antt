@@ -1,10 +1,11 @@
 -- Closed events, one after another.
-use Rattle.loop_runner.proofs.Below.{◌≡◌, ◌≤◌, ◌<◌, inl, ⊎_elim, ℕ, zero, suc, List, [], ◌∷◌, ◌++◌, Option, Some, None, Bool, true, false, cond, is_some, ◌||◌, refl, sym, ap, ◌∙◌, subst, arith, cases_eq, Phase, EventValue, NoteValue, IsNoted, NetState, is_accepted, is_open, accepted_more, HubState, Server, server, PartingValue, entry_of, has_entry, phase_at, Ties, nothing, Progress, progress_at, Appends, IsTable, TakesDue, table_of, told_one, told_is, due_taken, IntakeView, event_for, due_accepted, sound_closed, sound_serves, closed_given, Intakes, Every, Steps, is_kept_at, weight_of, weight_at, weight_below, Beginning, KeptAll, meaning_of, HandsOut, ServesOrders, told_none, owed_aside, TellingValue, tell_of, told_call}
+use Rattle.loop_runner.proofs.Below.{◌≡◌, ◌≤◌, ◌<◌, inl, ⊎_elim, ℕ, zero, suc, List, [], ◌∷◌, ◌++◌, Option, Some, None, Bool, true, false, cond, is_some, ◌||◌, refl, sym, ap, ◌∙◌, subst, arith, cases_eq, Phase, EventValue, NoteValue, IsNoted, NetState, is_accepted, is_open, accepted_more, HubState, Server, server, PartingValue, entry_of, has_entry, phase_at, Ties, nothing, Progress, progress_at, Appends, IsTable, TakesDue, table_of, told_one, told_is, due_taken, IntakeView, event_for, due_accepted, sound_closed, sound_serves, closed_given, Intakes, Every, Steps, is_kept_at, weight_of, weight_at, weight_below, Beginning, KeptAll, meaning_of, HandsOut, ServesOrders, told_none, owed_aside, TellingValue, tell_of, told_call, ◌≢◌, not, by_cases, clash, Entry, no_entry, is_gone, is_present, entry_at, counts_at, SameCounts, ticked_call}
 use Rattle.ws_kinds.specs.EventValue as event
 use Rattle.ws_kinds.specs.NoteValue as note
+use Rattle.hub_notes.specs.Quiet.{count_of}
 use Rattle.loop_runner.proofs.GrowLemmas.{grows_hub, grows_noted, grows_served, grows_then}
 use Rattle.loop_runner.proofs.OpenLemmas.{opens_none, opens_served, opens_then}
-use Rattle.loop_runner.proofs.KeepLemmas.{keep_on, served_told}
+use Rattle.loop_runner.proofs.KeepLemmas.{keep_on, served_ticked, served_told}
 use Rattle.loop_runner.proofs.ProgressLemmas.{Stays, Calm, stays_same, calm_same, kept_by, weight_by, present_at, kept_at, reading_after, phases_read}
 use Rattle.loop_runner.proofs.StepLemmas.{onward_still}
 
@@ -108,6 +109,22 @@ phase_some false phase = refl
 pub kept_phase : (h : HubState) (c : ℕ) → IsTable (table_of h) → is_some (phase_at h c) ≡ is_kept_at h c
 kept_phase h c table = phase_some (has_entry h.entries c) (entry_of h.entries c).phase ∙ table.kept c
 
+-- ---- what is counted of those who are there, as a Closed event is taken
+
+same_entry : (h k : HubState) (c : ℕ) → entry_at k c ≡ entry_at h c → is_present k c ≡ true → (is_present h c ≡ true) × (counts_at k c ≡ counts_at h c)
+same_entry h k c e there = (ap (λ (z : Entry). not (is_gone z.phase)) (sym e) ∙ there, ap (λ (z : Entry). count_of z.quiet) e)
+
+counts_taken : (p : PartingValue) (h k : HubState) → TakesDue (Some p) (table_of h) (table_of k) → SameCounts h k
+counts_taken p h k x c there = ⊎_elim
+    (λ (q : c ≡ p.conn).
+    let own : entry_at k c ≡ cond (is_gone (entry_at h c).phase) no_entry (entry_at h c) =
+    subst (λ (z : ℕ). entry_at k z ≡ cond (is_gone (entry_at h z).phase) no_entry (entry_at h z)) (sym q) x.3 in
+    by_cases (is_gone (entry_at h c).phase)
+    (λ gone. clash (is_present k c) (ap (λ (z : Entry). not (is_gone z.phase)) (own ∙ ap (λ (z : Bool). cond z no_entry (entry_at h c)) gone)) there)
+    (λ stays. same_entry h k c (own ∙ ap (λ (z : Bool). cond z no_entry (entry_at h c)) stays) there))
+    (λ (ne : c ≢ p.conn). same_entry h k c (x.4.entries c ne) there)
+    (cases_eq c p.conn)
+
 -- ---- what is kept where it is given
 
 module _ {S : Type 0} (b : Beginning S) (parting : PartingValue) (intakes : Intakes) (hub : HubState) (s d : Server) (t : Option (List NoteValue)) (now next : S) (views : ℕ → IntakeView) (given : EventValue)
@@ -134,4 +151,6 @@ module _ {S : Type 0} (b : Beginning S) (parting : PartingValue) (intakes : Inta
         whole = whole;
         told = served_told b replies (ns ++ n ∷ []) ms conn (b.said next given) m d served told_m told
             (told_call r ns (n ∷ []) hub s.hub refl refl (λ _ c. ap (λ (z : List TellingValue). tell_of z c) out.tellings) x.told);
+        ticked = served_ticked b replies (ns ++ n ∷ []) ms conn (b.said next given) m d served told_m told
+            (ticked_call r ns (n ∷ []) hub s.hub refl refl (λ _. counts_taken parting hub s.hub out.taken) out.appends.lines.config x.ticked);
       })

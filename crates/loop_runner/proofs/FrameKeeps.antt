@@ -1,5 +1,5 @@
 -- What is kept where a step of a reader is taken.
-use Rattle.loop_runner.proofs.Below.{◌≡◌, ◌≢◌, ⊎_elim, ℕ, List, [], ◌∷◌, ◌++◌, Option, Some, None, Bool, true, false, is_some, ◌&&◌, refl, sym, ap, ◌∙◌, subst, append-nil, ◌||◌, cases_eq, list_all, Kind, Phase, Head, Open, Leaving, Ending, Gone, ConfigValue, NoteValue, EventValue, OrderValue, IsNoted, Pong, Event, Item, whole, close_item, RouteTable, Reader, read, is_frame_heard, is_open, phase, world, is_reading, sound_one, Server, server, is_gone, phase_at, only, served, Proceeds, progress_at, IsTable, table_of, has_frames, clash, told_one, Sends, Notes, Agrees, ReaderView, IsRead, told_is, agrees_told_phase, agrees_hub_phase, AreSound, is_inner, Shows, IntakeView, RestsAt, Kept, event_for, shows_sound, shows_told, sound_proceed, sound_call, sound_shown, sound_serves, shut_kept, message_given, stepped_kept, passed_kept, ping_kept, pong_kept, close_kept, failure_kept, Beginning, Holds, meaning_of, view_by, view_of, with_view, HasFrames, ServesOrders, KeepsOne, is_opened, is_turn, is_telling, told_call}
+use Rattle.loop_runner.proofs.Below.{◌≡◌, ⊎_elim, ℕ, List, [], ◌∷◌, ◌++◌, Option, Some, None, Bool, true, false, is_some, ◌&&◌, refl, sym, ap, ◌∙◌, subst, append-nil, cases_eq, list_all, Kind, Phase, Head, Open, Leaving, Ending, Gone, ConfigValue, NoteValue, EventValue, OrderValue, IsNoted, Pong, Event, Item, whole, close_item, RouteTable, Reader, read, is_frame_heard, is_open, phase, world, is_reading, sound_one, Server, server, is_gone, phase_at, only, served, Proceeds, progress_at, IsTable, table_of, has_frames, clash, told_one, Sends, Notes, Agrees, ReaderView, IsRead, told_is, agrees_told_phase, agrees_hub_phase, AreSound, is_inner, Shows, IntakeView, RestsAt, Kept, event_for, shows_sound, shows_told, sound_proceed, sound_call, sound_shown, sound_serves, shut_kept, message_given, stepped_kept, passed_kept, ping_kept, pong_kept, close_kept, failure_kept, Beginning, Holds, meaning_of, view_by, view_of, with_view, HasFrames, ServesOrders, KeepsOne, is_opened, is_turn, is_telling, told_call, is_uncounted, is_ticking, ticked_call}
 use Rattle.ws_kinds.specs.NoteValue as note
 use Rattle.ws_kinds.specs.EventValue as event
 use Rattle.wire_meaning.specs.Event as wire
@@ -7,7 +7,7 @@ use Rattle.run_meaning.specs.Server as run
 use Rattle.loop_runner.proofs.ProgressLemmas.{phase_read}
 use Rattle.loop_runner.proofs.GrowLemmas.{grows_makes, grows_proceeds, grows_served, grows_then, grows_noted}
 use Rattle.loop_runner.proofs.OpenLemmas.{opens_none, opens_sent, opens_served, opens_then}
-use Rattle.loop_runner.proofs.KeepLemmas.{keep_notes, keep_on, keep_there, sent_told, served_told}
+use Rattle.loop_runner.proofs.KeepLemmas.{counts_beside, keep_notes, keep_on, keep_there, sent_ticked, sent_told, served_ticked, served_told}
 use Rattle.loop_runner.proofs.ViewLemmas.{with_same, same_but, view_read}
 
 -- ---- notes
@@ -91,6 +91,7 @@ module _ {S : Type 0} (b : Beginning S) (c route : ℕ) (param : List ℕ) where
           sound = h.sound;
           whole = h.whole;
           told = h.told;
+          ticked = h.ticked;
         });
   }
     where
@@ -114,6 +115,7 @@ module _ {S : Type 0} (b : Beginning S) (c route : ℕ) (param : List ℕ) where
         sound = h.sound;
         whole = h.whole;
         told = h.told;
+        ticked = h.ticked;
       });
     }
 
@@ -126,23 +128,30 @@ module _ {S : Type 0} (b : Beginning S) (c route : ℕ) (param : List ℕ) where
         sound = h.sound;
         whole = h.whole;
         told = h.told;
+        ticked = h.ticked;
       });
     }
 
     -- it was noted, and what it sends was put
-    keep_sent : (n : NoteValue) (f : ℕ → List Item) (d : Server) (x : Sends c (n ∷ []) f a d) → is_inner n ≡ true → ((k : ℕ) → is_opened k n ≡ false) → is_turn n ≡ false → is_telling n ≡ false
+    keep_sent : (n : NoteValue) (f : ℕ → List Item) (d : Server) (x : Sends c (n ∷ []) f a d) → is_inner n ≡ true → ((k : ℕ) → is_opened k n ≡ false) → is_turn n ≡ false → is_telling n ≡ false → is_uncounted n ≡ true → is_ticking n ≡ false
         → ((replies : ℕ → List ℕ) (ns ms : List NoteValue) (views : ℕ → IntakeView) → views c ≡ view_by before route param → d.told ≡ Some ms → Holds b replies ns a now views (Some c)
         → (ms ≡ ns ++ n ∷ x.proceeds.sending) × Kept (meaning_of b replies) b.config b.table ms d now (with_view c (view_by after route param) views) (Some c))
         → Becomes (Some c) d
-    keep_sent n f d x inner unopened turnless silent step = record {
+    keep_sent n f d x inner unopened turnless silent rest still step = record {
       kept = λ views is. keep_on b a d now now views (with_view c (view_by after route param) views) (Some c) (Some c) (grows_proceeds (n ∷ []) [] a d x.proceeds) (opens_sent n a d x.proceeds unopened)
           (λ replies ns ms was tells told agree few h.
           let k = step replies ns ms views is told h in
-          record { kept = k.1; sound = sound_sends (meaning_of b replies) b.config ns ms n a d x.proceeds h.kept.agrees inner k.0 h.sound; whole = x.table; told = sent_told (meaning_of b replies) ns ms n a d x.proceeds turnless silent k.0 h.told });
+          record {
+            kept = k.1;
+            sound = sound_sends (meaning_of b replies) b.config ns ms n a d x.proceeds h.kept.agrees inner k.0 h.sound;
+            whole = x.table;
+            told = sent_told (meaning_of b replies) ns ms n a d x.proceeds turnless silent k.0 h.told;
+            ticked = sent_ticked (meaning_of b replies) ns ms n a d x.proceeds rest still x.appends.lines.config k.0 h.ticked;
+          });
     }
 
     pub keep_ping : (body : List ℕ) (d : Server) → phase_at a.hub c ≡ Some Open → IsRead before (wire.ping body ∷ []) after → Sends c (note.ping_got c body ∷ []) (only c (whole Pong body)) a d → Becomes (Some c) d
-    keep_ping body d at reads x = keep_sent (note.ping_got c body) (only c (whole Pong body)) d x refl (λ k. refl) refl refl (λ replies ns ms views is told h.
+    keep_ping body d at reads x = keep_sent (note.ping_got c body) (only c (whole Pong body)) d x refl (λ k. refl) refl refl refl refl (λ replies ns ms views is told h.
         ping_kept (meaning_of b replies) b.config b.table ns ms c body a d now views (with_view c (view_by after route param) views) x.proceeds h.kept h.whole x.table at
         (same_but c route param before after views is) (view_read c route param before after views is (wire.ping body ∷ []) reads) x.appends told)
 
@@ -151,6 +160,7 @@ module _ {S : Type 0} (b : Beginning S) (c route : ℕ) (param : List ℕ) where
       kept = λ views is.
           let later = with_view c (view_by after route param) views in
           keep_notes b (note.pong_got c body ∷ []) a d now now views later (Some c) (Some c) (grows_makes (note.pong_got c body ∷ []) a d x.makes) x.makes.advances.told (λ k. refl) x.table refl refl x.makes.advances.tells
+          (counts_beside (note.pong_got c body ∷ []) a d refl refl x.makes.advances.counts)
           (λ replies ns ms tells told h.
           let r = meaning_of b replies in
           let k = pong_kept r b.config b.table ns ms c body a d now views later h.kept h.whole x.table at
@@ -163,14 +173,14 @@ module _ {S : Type 0} (b : Beginning S) (c route : ℕ) (param : List ℕ) where
     -- the connection is then ending
     pub keep_close : (code : ℕ) (reason : List ℕ) (d : Server) → has_frames (phase_at a.hub c) ≡ true → IsRead before (wire.closed code reason ∷ []) after
         → Sends c (note.peer_close c code reason ∷ []) (served (is_open (phase_at a.hub c)) (only c (close_item code))) a d → Becomes (Some c) d
-    keep_close code reason d frames reads x = keep_sent (note.peer_close c code reason) (served (is_open (phase_at a.hub c)) (only c (close_item code))) d x refl (λ k. refl) refl refl (λ replies ns ms views is told h.
+    keep_close code reason d frames reads x = keep_sent (note.peer_close c code reason) (served (is_open (phase_at a.hub c)) (only c (close_item code))) d x refl (λ k. refl) refl refl refl refl (λ replies ns ms views is told h.
         let k = close_kept (meaning_of b replies) b.config b.table ns ms c code reason a d now views (with_view c (view_by after route param) views) x.proceeds h.kept h.whole x.table frames
         (same_but c route param before after views is) (view_read c route param before after views is (wire.closed code reason ∷ []) reads) x.appends told in
         (k.0, kept_done c k.1))
 
     pub keep_failed : (code : ℕ) (d : Server) → has_frames (phase_at a.hub c) ≡ true → IsRead before (wire.failed code ∷ []) after
         → Sends c (note.failed c code ∷ []) (served (is_open (phase_at a.hub c)) (only c (close_item code))) a d → Becomes (Some c) d
-    keep_failed code d frames reads x = keep_sent (note.failed c code) (served (is_open (phase_at a.hub c)) (only c (close_item code))) d x refl (λ k. refl) refl refl (λ replies ns ms views is told h.
+    keep_failed code d frames reads x = keep_sent (note.failed c code) (served (is_open (phase_at a.hub c)) (only c (close_item code))) d x refl (λ k. refl) refl refl refl refl (λ replies ns ms views is told h.
         let k = failure_kept (meaning_of b replies) b.config b.table ns ms c code a d now views (with_view c (view_by after route param) views) x.proceeds h.kept h.whole x.table frames
         (same_but c route param before after views is) (view_read c route param before after views is (wire.failed code ∷ []) reads) x.appends told in
         (k.0, kept_done c k.1))
@@ -199,5 +209,6 @@ module _ {S : Type 0} (b : Beginning S) (c route : ℕ) (param : List ℕ) where
             sound = sound_message r b.config ns ms c kind body a d t (b.said next given) h.kept.agrees at noted serves was told h.sound;
             whole = table;
             told = served_told b replies (ns ++ n ∷ []) ms c (b.said next given) mid d serves told_m told (told_call r ns (n ∷ []) a.hub a.hub refl refl (λ _ k. refl) h.told);
+            ticked = served_ticked b replies (ns ++ n ∷ []) ms c (b.said next given) mid d serves told_m told (ticked_call r ns (n ∷ []) a.hub a.hub refl refl (λ _ k there. (there, refl)) refl h.ticked);
           });
     }

@@ -1,5 +1,5 @@
 -- What is kept from step to step.
-use Rattle.loop_runner.proofs.Below.{◌≡◌, ◌<◌, ◌-◌, ◌^◌, ℕ, List, [], ◌++◌, Option, Some, None, true, false, length, sym, ap, ◌∙◌, subst, append-nil, append_assoc, NoteValue, AreNoted, HandlerMeaning, NetState, RouteTable, plain, AreAdmitted, AreReplies, is_opened_in, told_is, admitted_longer, replies_before, Server, IsTable, table_of, by_cases, clash, IntakeView, Kept, AreSound, shut_kept, Intakes, Every, Grows, Beginning, Holds, KeptAll, AreFew, meaning_of, with_view, ForNotes, ForReplies, Moment, IsKeptThen, Keeps, KeepsOn, KeepsOne, list_any, is_turn, is_telling, TellsBy, told_call, told_orders, IsTold, ServesOrders, OrderValue, notes_of, told_proceed, Proceeds, ◌||◌, ◌∷◌, Bool, refl}
+use Rattle.loop_runner.proofs.Below.{◌≡◌, ◌<◌, ◌-◌, ◌^◌, ℕ, List, [], ◌++◌, Option, Some, true, false, length, sym, ap, ◌∙◌, subst, append-nil, append_assoc, NoteValue, AreNoted, HandlerMeaning, NetState, RouteTable, plain, AreAdmitted, AreReplies, is_opened_in, told_is, admitted_longer, replies_before, Server, IsTable, table_of, by_cases, clash, IntakeView, Kept, AreSound, shut_kept, Intakes, Every, Grows, Beginning, Holds, KeptAll, AreFew, meaning_of, with_view, ForNotes, ForReplies, Moment, IsKeptThen, Keeps, KeepsOn, KeepsOne, list_any, is_turn, is_telling, TellsBy, told_call, told_orders, IsTold, ServesOrders, OrderValue, notes_of, told_proceed, Proceeds, ◌||◌, ◌∷◌, Bool, refl, ◌&&◌, list_all, is_uncounted, is_ticking, is_tick, IsTicked, IsConfig, Agrees, world, CountsBeside, CountsBy, ticked_call, ticked_counted, ticked_orders, ticked_proceed}
 use Rattle.run_meaning.specs.Server as run
 use Rattle.loop_runner.proofs.OpenLemmas.{OpensNobody, opens_none}
 use Rattle.loop_runner.proofs.StepLemmas.{steps_then}
@@ -32,6 +32,25 @@ pub sent_told : {S : Type 0} (r : run.Server S) (ns ms : List NoteValue) (n : No
 sent_told r ns ms n a b x turnless silent e told =
     subst (λ (z : List NoteValue). IsTold r z b.hub) (sym (e ∙ ap (λ (z : List NoteValue). ns ++ n ∷ z) (sym (append-nil x.sending))))
     (told_proceed r ns (n ∷ []) [] a b x (ap (λ (z : Bool). z || false) turnless) refl (ap (λ (z : Bool). z || false) silent) refl told)
+
+-- the same of what the hub counts
+pub sent_ticked : {S : Type 0} (r : run.Server S) (ns ms : List NoteValue) (n : NoteValue) (a b : Server) (x : Proceeds (n ∷ []) [] a b) → is_uncounted n ≡ true → is_ticking n ≡ false → b.hub.config ≡ a.hub.config → ms ≡ ns ++ n ∷ x.sending
+    → IsTicked r ns a.hub → IsTicked r ms b.hub
+sent_ticked r ns ms n a b x rest still config e ticked =
+    subst (λ (z : List NoteValue). IsTicked r z b.hub) (sym (e ∙ ap (λ (z : List NoteValue). ns ++ n ∷ z) (sym (append-nil x.sending))))
+    (ticked_proceed r ns (n ∷ []) [] a b x (ap (λ (z : Bool). z && true) rest) refl (ap (λ (z : Bool). z || false) still) refl config ticked)
+
+-- these notes were made, and the hub goes on to have counted what all notes say
+abbrev pub CountsOn : Type 0 → List NoteValue → Server → Server → Type 0
+CountsOn S made a d = (r : run.Server S) (ns : List NoteValue) → IsConfig a.hub.config → d.hub.config ≡ a.hub.config → Agrees (world r ns) ns a → IsTicked r ns a.hub → IsTicked r (ns ++ made) d.hub
+
+-- it does so with notes that are not counted
+pub counts_beside : {S : Type 0} (made : List NoteValue) (a d : Server) → list_all is_uncounted made ≡ true → list_any is_ticking made ≡ false → CountsBeside made a.hub d.hub → CountsOn S made a d
+counts_beside made a d rest still by r ns numbers same agrees x = ticked_call r ns made a.hub d.hub rest still by same x
+
+-- and with one that is, but is no tick
+pub counts_first : {S : Type 0} (n : NoteValue) (a d : Server) → is_tick n ≡ false → is_ticking n ≡ false → CountsBy n a.hub d.hub → CountsOn S (n ∷ []) a d
+counts_first n a d tickless still by r ns numbers same agrees x = ticked_counted r ns n [] a d tickless refl (ap (λ (z : Bool). z || false) still) numbers same by agrees x
 
 module _ {S : Type 0} (b : Beginning S) where
   pub earlier : (a d : Server) → Grows a d → (replies : ℕ → List ℕ) (ms : List NoteValue) → d.told ≡ Some ms → d.net.tells ≡ true → AreReplies b.table ms d.net.given replies → AreFew (meaning_of b replies) ms → Earlier b replies ms a
@@ -77,15 +96,21 @@ module _ {S : Type 0} (b : Beginning S) where
 
   -- the same, where it is known what was noted: that no turn ended, and nothing that the handler was told
   pub keep_notes : (made : List NoteValue) (a d : Server) (now next : S) (views later : ℕ → IntakeView) (from to : Option ℕ) → Grows a d → AreNoted a.told made d.told
-      → ((c : ℕ) → is_opened_in c made ≡ false) → IsTable (table_of d.hub) → list_any is_turn made ≡ false → list_any is_telling made ≡ false → TellsBy made a.hub d.hub
+      → ((c : ℕ) → is_opened_in c made ≡ false) → IsTable (table_of d.hub) → list_any is_turn made ≡ false → list_any is_telling made ≡ false → TellsBy made a.hub d.hub → CountsOn S made a d
       → ((replies : ℕ → List ℕ) (ns ms : List NoteValue) → a.net.tells ≡ true → d.told ≡ Some ms → Holds b replies ns a now views from
       → Kept (meaning_of b replies) b.config b.table (ns ++ made) d next later to × AreSound (meaning_of b replies) b.config (ns ++ made))
       → KeptAll b a now views from → KeptAll b d next later to
-  keep_notes made a d now next views later from to grows noted none whole turnless silent tells_by step = keep_on a d now next views later from to grows (opens_none made a d noted none)
+  keep_notes made a d now next views later from to grows noted none whole turnless silent tells_by counts step = keep_on a d now next views later from to grows (opens_none made a d noted none)
       (λ replies ns ms was tells told agree few old.
       let is : ns ++ made ≡ ms = same_notes (ns ++ made) ms (sym (told_is ns made ms a.told d.told noted was told) ∙ told) in
       let got = step replies ns ms tells told old in
-      subst (λ (z : List NoteValue). Holds b replies z d next later to) is (record { kept = got.0; sound = got.1; whole = whole; told = told_call (meaning_of b replies) ns made a.hub d.hub turnless silent tells_by old.told }))
+      subst (λ (z : List NoteValue). Holds b replies z d next later to) is (record {
+        kept = got.0;
+        sound = got.1;
+        whole = whole;
+        told = told_call (meaning_of b replies) ns made a.hub d.hub turnless silent tells_by old.told;
+        ticked = counts (meaning_of b replies) ns old.whole.numbers (got.0.configured ∙ sym old.kept.configured) old.kept.agrees old.ticked;
+      }))
 
   -- the orders of an event were served, behind these notes
   pub served_told : (replies : ℕ → List ℕ) (front ms : List NoteValue) (conn : ℕ) (orders : List OrderValue) (m d : Server) → ServesOrders conn orders m d → m.told ≡ Some front → d.told ≡ Some ms
@@ -93,6 +118,12 @@ module _ {S : Type 0} (b : Beginning S) where
   served_told replies front ms conn orders m d x was told t =
       let is : front ++ notes_of x.steps ≡ ms = same_notes (front ++ notes_of x.steps) ms (sym (told_is front (notes_of x.steps) ms m.told d.told (x.does (λ _. [])).told was told) ∙ told) in
       subst (λ (z : List NoteValue). IsTold (meaning_of b replies) z d.hub) is (told_orders (meaning_of b replies) front _ _ conn 0 orders m d x t)
+
+  pub served_ticked : (replies : ℕ → List ℕ) (front ms : List NoteValue) (conn : ℕ) (orders : List OrderValue) (m d : Server) → ServesOrders conn orders m d → m.told ≡ Some front → d.told ≡ Some ms
+      → IsTicked (meaning_of b replies) front m.hub → IsTicked (meaning_of b replies) ms d.hub
+  served_ticked replies front ms conn orders m d x was told t =
+      let is : front ++ notes_of x.steps ≡ ms = same_notes (front ++ notes_of x.steps) ms (sym (told_is front (notes_of x.steps) ms m.told d.told (x.does (λ _. [])).told was told) ∙ told) in
+      subst (λ (z : List NoteValue). IsTicked (meaning_of b replies) z d.hub) is (ticked_orders (meaning_of b replies) front _ _ conn 0 orders m d x t)
 
   -- the same server, with other views of the intakes
   pub keep_there : (s : Server) (now : S) (views later : ℕ → IntakeView) (from to : Option ℕ) → ((replies : ℕ → List ℕ) (ns : List NoteValue) → Holds b replies ns s now views from → Holds b replies ns s now later to)
@@ -102,7 +133,7 @@ module _ {S : Type 0} (b : Beginning S) where
   -- views of the intakes that are the same
   pub keep_views : (s : Server) (now : S) (views later : ℕ → IntakeView) (reading : Option ℕ) → ((conn : ℕ) → later conn ≡ views conn) → KeptAll b s now views reading → KeptAll b s now later reading
   keep_views s now views later reading same = keep_there s now views later reading reading
-      (λ replies ns x. record { kept = shut_kept (meaning_of b replies) b.config b.table ns s now views later reading x.kept (λ c _. same c); sound = x.sound; whole = x.whole; told = x.told })
+      (λ replies ns x. record { kept = shut_kept (meaning_of b replies) b.config b.table ns s now views later reading x.kept (λ c _. same c); sound = x.sound; whole = x.whole; told = x.told; ticked = x.ticked })
 
   -- of one connection, one step after another
   pub keep_one_same : (c : ℕ) (reading : Option ℕ) (view : IntakeView) (s : Server) (now : S) → KeepsOne b c reading reading view view s now s now

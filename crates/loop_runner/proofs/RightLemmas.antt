@@ -1,5 +1,5 @@
 -- What is kept holds at first, and after a turn it is what the relation of a run asks for.
-use Rattle.loop_runner.proofs.Below.{◌≡◌, ◌<◌, ◌-◌, ◌^◌, ℕ, List, [], length, Option, Some, None, true, false, refl, sym, ◌∙◌, subst, NoteValue, NetState, Nexts, is_rest, NetEvent, AreAdmitted, texts_exist, told_first, clash, HubState, Server, server, Ties, Settled, nothing, Appends, RingsWait, due_at, EndsTurn, IsTable, table_of, IntakeView, AreThere, sound_none, kept_right_there, rest_links, turn_settled_there, kept_first, IsAsked, Beginning, Holds, KeptAll, IsRight, meaning_of, IsSettledIfTold}
+use Rattle.loop_runner.proofs.Below.{◌≡◌, ◌<◌, ◌-◌, ◌^◌, ℕ, List, [], length, Option, Some, None, true, false, refl, sym, ◌∙◌, subst, NoteValue, NetState, Nexts, is_rest, NetEvent, AreAdmitted, texts_exist, told_first, clash, HubState, Server, server, Ties, Settled, nothing, Appends, RingsWait, due_at, EndsTurn, IsTable, table_of, IntakeView, AreThere, sound_none, kept_right_there, rest_links, turn_settled_there, kept_first, IsAsked, Beginning, Holds, KeptAll, IsRight, meaning_of, IsSettledIfTold, ConfigValue, Timely, ticked_first}
 use Rattle.loop_runner.proofs.GrowLemmas.{grows_ended, grows_next, grows_then}
 use Rattle.loop_runner.proofs.KeepLemmas.{earlier, few_of, same_notes}
 
@@ -9,7 +9,8 @@ module _ {S : Type 0} (b : Beginning S) where
     texts = λ notes told tells few. texts_exist b.table notes s.net.given (kept.admitted notes told tells few);
     right = λ notes told tells replies agree few.
         let holds = kept.holds notes told tells replies agree few in
-        kept_right_there (meaning_of b replies) b.config b.table notes s now views holds.kept settled (few_of (meaning_of b replies) notes few) holds.sound holds.told.right;
+        kept_right_there (meaning_of b replies) b.config b.table notes s now views holds.kept settled (few_of (meaning_of b replies) notes few) holds.sound holds.told.right
+        (subst (λ (z : ConfigValue). Timely (meaning_of b replies) z notes) holds.kept.configured holds.ticked.timely);
   }
 
   -- before anything was noted
@@ -24,6 +25,7 @@ module _ {S : Type 0} (b : Beginning S) where
           sound = sound_none (meaning_of b replies) b.config;
           whole = whole;
           told = told_first (meaning_of b replies) s.hub tellings;
+          ticked = ticked_first (meaning_of b replies) s.hub entries;
         });
   }
 

@@ -2,6 +2,7 @@
 use Rattle.loop_runner.proofs.Below.{◌≡◌, ◌≤◌, inl, inr, ⊎_elim, ℕ, List, [], ◌∷◌, length, Option, Some, None, true, false, not, is_some, refl, sym, ap, ◌∙◌, subst, arith, cases_eq, Phase, Head, Open, Leaving, Ending, Gone, NoteValue, NetState, Frees, is_reading, Reader, HubState, Entry, Server, server, entry_of, has_entry, is_gone, phase_at, due_at, Settled, by_cases, clash, or_right, IsTable, table_of, Intake, Intakes, max_of, intake_at, is_admitted, ChangesIntake, SameIntakes, IsTaken, IsAsked, Ready, Every, But, StaysOrLeaves, StepsWith, Takes, Running, is_kept_at, OffersIfThere}
 use Rattle.loop_runner.proofs.StepLemmas.{steps_freed, waits_freed}
 use Rattle.frame_reader.specs.Reader as reader
+use Rattle.link_trait.specs.Net.{SameLinks}
 use Rattle.loop_runner.proofs.ProgressLemmas.{read_kept}
 use Rattle.loop_runner.proofs.ViewLemmas.{Written, none_some, same_some}
 
@@ -148,6 +149,23 @@ running_freed conn intakes h a n t b x free offers =
       asked = λ c p r. s.due c p r ∙ free.due c ∙ x.asked c p (s.reading c r);
       taken = λ c p intake at. taken_as (phase_at h c) (phase_at b.hub c) intake.reader (s.phase c p) (x.taken c p intake at);
     }
+
+-- time went by, and then the hub counted that
+pub running_ticked : (intakes : Intakes) (h : HubState) (a n : NetState) (t : Option (List NoteValue)) (b : Server) → Running Every intakes (server h a t) → SameLinks a n → StepsWith 0 0 Every (server h n t) b → Running Every intakes b
+running_ticked intakes h a n t b x links s = running_steps Every intakes (server h n t) b
+    (record {
+      max = x.max;
+      kept = x.kept;
+      table = x.table;
+      ties = λ c there. links.live c ∙ x.ties c there;
+      named = subst (λ (z : ℕ). h.named ≤ z) (sym links.named) x.named;
+      short = x.short;
+      waits = λ c there holds. links.writable c ∙ x.waits c there holds;
+      readers = x.readers;
+      asked = λ c p r. links.due c ∙ x.asked c p r;
+      taken = x.taken;
+    })
+    s
 
 -- ---- how a turn begins and ends
 

@@ -1,5 +1,5 @@
 -- What the calls of a hub keep.
-use Rattle.loop_runner.proofs.Below.{◌≡◌, ◌≤◌, ◌+◌, ◌-◌, ◌^◌, ◌⊎◌, inl, inr, ⊎_elim, ℕ, suc, List, [], ◌∷◌, ◌++◌, Option, Bool, true, false, cond, not, ◌&&◌, ◌||◌, refl, sym, ap, ◌∙◌, subst, arith, append_assoc, list_any, list_all, ConfigValue, NoteValue, OrderValue, IsNoted, AreNoted, Item, NetState, LinkFailed, is_of, is_acceptance, is_turn, is_gone_in, number_of, Standing, is_reading, AreThere, Step, notes_of, of_notes, standings_after, is_outgoing, is_link_failure, Answers, Performs, serves, refuses, notes_of-append, notes_of-notes, list_any-append, is_silent, HubState, Server, server, is_present, phase_at, ring_at, Ties, ShortRings, nothing, short_silent, progress_at, progress_by_steps, RingsWait, NetAfter, RoseBy, Advances, Proceeds, Appends, Makes, IsTable, table_of, EndsTurn, finishes, clash, or_left, or_right, and_left, and_right, Sends, Notes, GivesOctets, LosesLink, Every, But, Grows, RisesBeyond, Onward, StepsWith, Steps, ServesOrders, number_then, rose_same, told_one, steps_of_notes, not_true, ◌≢◌, cases_eq, by_cases, Waits, OffersIfThere, Offers, KeepsOwed, owed_aside, owed_call, owed_steps, owed_then, is_accepted, unaccepted, told_none}
+use Rattle.loop_runner.proofs.Below.{◌≡◌, ◌≤◌, ◌+◌, inl, ⊎_elim, ℕ, suc, List, [], ◌∷◌, ◌++◌, Option, Bool, true, false, cond, not, ◌&&◌, ◌||◌, refl, sym, ap, ◌∙◌, subst, arith, append_assoc, list_any, list_all, ConfigValue, NoteValue, OrderValue, IsNoted, AreNoted, Item, NetState, LinkFailed, is_of, is_acceptance, is_turn, is_gone_in, number_of, Standing, is_reading, AreThere, Step, notes_of, of_notes, standings_after, is_outgoing, is_link_failure, Answers, Performs, serves, refuses, notes_of-append, notes_of-notes, list_any-append, is_silent, HubState, Server, server, is_present, phase_at, ring_at, Ties, ShortRings, nothing, short_silent, progress_at, progress_by_steps, RingsWait, NetAfter, RoseBy, Advances, Proceeds, Appends, Makes, IsTable, table_of, EndsTurn, finishes, clash, or_left, or_right, and_left, and_right, Sends, Notes, GivesOctets, LosesLink, Every, But, Grows, RisesBeyond, Onward, StepsWith, Steps, ServesOrders, number_then, rose_same, told_one, steps_of_notes, not_true, ◌≢◌, cases_eq, by_cases, Waits, OffersIfThere, Offers, KeepsOwed, owed_aside, owed_call, owed_steps, owed_then, is_accepted, unaccepted, told_none, none_follow, Ticks, is_of_tick, tick_advances}
 use Rattle.ws_kinds.specs.NoteValue as note
 use Rattle.loop_runner.proofs.NotedLemmas.{links_both, links_noted, links_paid, links_still, none_numbered, number_none, turns_both, turns_noted, turns_same}
 use Rattle.loop_runner.proofs.GrowLemmas.{grows_net, grows_noted, grows_same, grows_then}
@@ -204,6 +204,26 @@ steps_makes n a b x app ties table named calm =
     steps_of Every (n ∷ []) nothing a b x.advances
     (onward_call 0 (number_of is_link_failure (n ∷ [])) 0 (n ∷ []) a b x.advances x.fails.faults (omega arith) (ap (λ (z : Bool). cond z 1 0) (starts_turn n calm)) (omega (arith, named)) (λ c _. unaccepted (n ∷ []) c none))
     app ties table named (λ c _. ap (λ (z : Bool). z || false) (none_of c n (starts_begins n calm))) none
+
+-- a tick
+tick_starts : (ns : List NoteValue) → list_all is_of_tick ns ≡ true → list_any starts ns ≡ false
+tick_starts ns e = none_follow is_of_tick starts one ns e
+  where
+    one : (n : NoteValue) → is_of_tick n ≡ true → starts n ≡ false
+    one note.turn h = clash false refl h
+    one (note.accepted c) h = clash false refl h
+    one (note.opened c route param) h = clash false refl h
+    one _ h = refl
+
+pub steps_ticks : (a b : Server) → Ticks a b → Ties b → IsTable (table_of b.hub) → b.hub.named ≡ a.hub.named → Steps Every a b
+steps_ticks a b x ties table named =
+    let made : List NoteValue = note.tick ∷ x.rest in
+    let none : list_any starts made ≡ false = tick_starts x.rest x.of_tick in
+    let adv = tick_advances a b x in
+    let does = x.does (λ _. []) in
+    steps_of Every made _ a b adv
+    (onward_call 0 (number_of is_link_failure made) 0 made a b adv x.fails.faults (omega arith) (turnless made none) (omega (arith, named)) (λ c _. unaccepted made c (accepts_none made none)))
+    does.appends ties table named (λ c _. begin_none c made none) (accepts_none made none)
 
 pub steps_notes : {conn : ℕ} {n : NoteValue} (a b : Server) → Notes conn (n ∷ []) a b → starts n ≡ false → Steps Every a b
 steps_notes {conn} {n} a b x calm = steps_makes n a b x.makes x.appends x.ties x.table x.named calm

@@ -1,10 +1,10 @@
 -- The handler is told of one connection after another, and so of all in each turn.
-use Rattle.loop_runner.proofs.Below.{◌≡◌, ◌≤◌, ◌+◌, ◌||◌, ◌&&◌, length, ℕ, suc, List, [], ◌∷◌, ◌++◌, Option, Some, None, Bool, true, false, cond, refl, sym, ap, ◌∙◌, subst, arith, append_cancel_left, and_left, by_cases, Open, NoteValue, EventValue, is_turn, number_of, number_then, phase, is_open, world, open_is, tell, Phase, Entry, entry_of, unless_gone, HubState, Server, progress_at, news_at, news_is, has_news, tell_at, NoneToTell, IsTable, table_of, AreTold, BetweenTurns, TellsAll, TellsNext, all_told, told_next, told_given, told_is, is_accepted, accepted_more, shows_sound, sound_call, sound_serves, event_for, IntakeView, Agrees, Beginning, KeptAll, IsToldNow, IsBetweenTurns, EndsWithTurn, AreFew, AreReplies, meaning_of, Grows, NotesTurns, ServesOrders, is_kept_at, is_some, at_first, after_turn}
+use Rattle.loop_runner.proofs.Below.{◌≡◌, ◌≤◌, ◌+◌, ◌&&◌, length, ℕ, suc, List, [], ◌∷◌, ◌++◌, Option, Some, None, Bool, true, cond, refl, sym, ap, ◌∙◌, subst, arith, append_cancel_left, and_left, by_cases, Open, NoteValue, EventValue, is_turn, number_of, number_then, phase, is_open, world, open_is, tell, Phase, Entry, entry_of, unless_gone, HubState, Server, progress_at, news_at, news_is, has_news, tell_at, NoneToTell, IsTable, table_of, AreTold, BetweenTurns, TellsAll, TellsNext, all_told, told_next, told_given, told_is, is_accepted, accepted_more, shows_sound, sound_call, sound_serves, event_for, IntakeView, Agrees, Beginning, KeptAll, IsToldNow, IsBetweenTurns, EndsWithTurn, AreFew, AreReplies, meaning_of, Grows, NotesTurns, ServesOrders, is_kept_at, is_some, at_first, after_turn, ticked_call}
 use Rattle.ws_kinds.specs.NoteValue as note
 use Rattle.ws_kinds.specs.EventValue as event
 use Rattle.run_meaning.specs.Server as run
 use Rattle.loop_runner.proofs.GrowLemmas.{grows_makes, grows_served, grows_then}
-use Rattle.loop_runner.proofs.KeepLemmas.{earlier, keep_on, same_notes, served_told}
+use Rattle.loop_runner.proofs.KeepLemmas.{earlier, keep_on, same_notes, served_ticked, served_told}
 use Rattle.loop_runner.proofs.OpenLemmas.{opens_none, opens_served, opens_then}
 use Rattle.loop_runner.proofs.ProgressLemmas.{kept_at, kept_by}
 
@@ -54,6 +54,7 @@ module _ {S : Type 0} (b : Beginning S) (after conn dropped : ℕ) (drained : Bo
         sound = (sound_serves r b.config _ _ conn 0 orders (ns ++ n ∷ []) ms m d served told_m told first.1 accepted first.0).0;
         whole = whole;
         told = served_told b replies (ns ++ n ∷ []) ms conn orders m d served told_m told (told_next r ns after conn dropped drained a m h.kept.agrees x h.told);
+        ticked = served_ticked b replies (ns ++ n ∷ []) ms conn orders m d served told_m told (ticked_call r ns (n ∷ []) a.hub m.hub refl refl x.makes.advances.counts x.appends.lines.config h.ticked);
       })
 
 -- ---- the notes of one turn

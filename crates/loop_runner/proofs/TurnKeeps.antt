@@ -1,11 +1,11 @@
 -- What is kept where a connection comes, and as a turn ends.
-use Rattle.loop_runner.proofs.Below.{◌≡◌, ◌<◌, ◌^◌, ◌-◌, ℕ, List, [], ◌∷◌, ◌++◌, length, take, Option, Some, None, Bool, true, false, cond, nat_eq, nat_lt, refl, sym, ap, ◌∙◌, subst, arith, length-append, ◌||◌, ◌≢◌, append-nil, nat_tests, Conn, ConfigValue, NoteValue, IsNoted, AreNoted, NetState, Nexts, Shuts, passing, passed_after, is_rest, NetEvent, RouteTable, is_gone_in, is_accepted, world, Follows, arrival, entries, sound_one, HubState, Server, server, has_entry, nothing, Appends, due_at, IsTable, table_of, Makes, Arrives, EndsTurn, Taken, Busy, Memory, told_one, Agrees, agrees_aside, told_is, none_but, new_above, agrees_entries, next_but, aside_but, AreSound, IntakeView, Kept, kept_arrived, none_due, sound_comes, sound_time, gone_accepted, kept_passing, sound_arrival, sound_turn, agrees_now, kept_tick, kept_busy, kept_memory, kept_no_room, kept_shut, kept_readable, kept_writable, kept_turned, Intake, IsNew, Beginning, Holds, KeptAll, meaning_of, intake_view, with_view, Grows, Onward, GrowsBy, Passes, is_opened, is_present, Offers, by_cases, kept_offered, sound_offer, OffersIfThere, is_turn, is_telling, TellsBy, IsTold, HoldsAs, told_proceed, told_end, holds_as, finishes, finishes_turnless, finishes_silent, Settled}
+use Rattle.loop_runner.proofs.Below.{◌≡◌, ◌<◌, ◌^◌, ◌-◌, ℕ, List, [], ◌∷◌, ◌++◌, length, take, Option, Some, None, Bool, true, false, cond, nat_eq, nat_lt, refl, sym, ap, ◌∙◌, subst, arith, length-append, ◌||◌, nat_tests, Conn, ConfigValue, NoteValue, IsNoted, AreNoted, NetState, Nexts, Shuts, passing, passed_after, is_rest, NetEvent, RouteTable, is_gone_in, is_accepted, world, Follows, arrival, entries, sound_one, HubState, Server, server, has_entry, nothing, Appends, due_at, IsTable, table_of, Makes, Arrives, EndsTurn, Taken, Busy, Memory, told_one, Agrees, agrees_aside, told_is, none_but, new_above, agrees_entries, next_but, aside_but, AreSound, IntakeView, Kept, kept_arrived, none_due, sound_comes, sound_time, gone_accepted, kept_passing, sound_arrival, sound_turn, agrees_now, kept_tick, kept_busy, kept_memory, kept_no_room, kept_shut, kept_readable, kept_writable, kept_turned, Intake, IsNew, Beginning, Holds, KeptAll, meaning_of, intake_view, with_view, Grows, Onward, GrowsBy, Passes, is_opened, is_present, Offers, by_cases, kept_offered, sound_offer, OffersIfThere, is_turn, is_telling, TellsBy, IsTold, HoldsAs, told_proceed, told_end, holds_as, finishes, finishes_turnless, finishes_silent, Settled, ◌&&◌, list_all, list_any, clash, none_follow, all_then, none_then, is_opened_in, is_uncounted, is_ticking, CountsBeside, CountsBy, IsTicked, Ticks, is_of_tick, tick_advances, told_call, ticked_proceed, ticked_tick}
 use Rattle.ws_kinds.specs.NoteValue as note
 use Rattle.link_trait.specs.declared.net.NetEvent.TheVariants as event
 use Rattle.run_meaning.specs.Server as run
-use Rattle.loop_runner.proofs.GrowLemmas.{grows_then, grows_makes, grows_noted, grows_next, grows_shut, grows_ended, grows_proceeds}
-use Rattle.loop_runner.proofs.OpenLemmas.{opens_ended, opens_offered, opens_same, opens_then}
-use Rattle.loop_runner.proofs.KeepLemmas.{few_front, few_of, keep_notes, keep_on}
+use Rattle.loop_runner.proofs.GrowLemmas.{grows_advances, grows_then, grows_makes, grows_noted, grows_next, grows_shut, grows_ended, grows_proceeds}
+use Rattle.loop_runner.proofs.OpenLemmas.{opens_ended, opens_none, opens_offered, opens_same, opens_then}
+use Rattle.loop_runner.proofs.KeepLemmas.{counts_beside, counts_first, few_front, few_of, keep_notes, keep_on}
 use Rattle.loop_runner.proofs.ViewLemmas.{with_here, with_other}
 
 -- ---- fewer answers were counted before
@@ -96,13 +96,13 @@ module _ {S : Type 0} (b : Beginning S) (conn : Conn) (h : HubState) (before net
   agrees_then replies ns x = agrees_next (meaning_of b replies) b.config b.table ns a now views x.kept conn net next whole above none x.sound
 
   -- it was accepted
-  pub keep_accepted : (d : Server) (intake : Intake) → Arrives Taken conn.0 m d → Appends nothing m d → IsTable (table_of d.hub) → IsNew h.config.max_message (Some intake)
+  pub keep_accepted : (d : Server) (intake : Intake) → Arrives Taken conn.0 m d → Appends nothing m d → IsTable (table_of d.hub) → CountsBy (note.accepted conn.0) h d.hub → IsNew h.config.max_message (Some intake)
       → KeptAll b a now views None → KeptAll b d now (with_view conn.0 (intake_view intake) views) None
-  keep_accepted d intake arrives app whole_now new =
+  keep_accepted d intake arrives app whole_now counts new =
       let makes : Makes (note.accepted conn.0 ∷ []) m d = arrives.3 in
       let later = with_view conn.0 (intake_view intake) views in
       let here : later conn.0 ≡ intake_view intake = with_here conn.0 (intake_view intake) views in
-      keep_notes b (note.accepted conn.0 ∷ []) a d now now views later None None (grows_from d (grows_makes (note.accepted conn.0 ∷ []) m d makes)) makes.advances.told (λ c. refl) whole_now refl refl makes.advances.tells
+      keep_notes b (note.accepted conn.0 ∷ []) a d now now views later None None (grows_from d (grows_makes (note.accepted conn.0 ∷ []) m d makes)) makes.advances.told (λ c. refl) whole_now refl refl makes.advances.tells (counts_first (note.accepted conn.0) a d refl refl counts)
       (λ replies ns ms tells told x.
       let r = meaning_of b replies in (
         kept_arrived r b.config b.table ns a now views x.kept conn net d ms next arrives app told above x.sound later few whole whole_now
@@ -115,21 +115,22 @@ module _ {S : Type 0} (b : Beginning S) (conn : Conn) (h : HubState) (before net
 
   -- it was turned away, and its link was shut
   keep_shut : (n : NoteValue) (d : Server) (end : NetState) → ((c : ℕ) → is_opened c n ≡ false) → AreNoted t (n ∷ []) d.told → IsTable (table_of d.hub) → Grows m d → Shuts conn.0 d.net end
-      → is_turn n ≡ false → is_telling n ≡ false → TellsBy (n ∷ []) h d.hub
+      → is_turn n ≡ false → is_telling n ≡ false → TellsBy (n ∷ []) h d.hub → is_uncounted n ≡ true → is_ticking n ≡ false → CountsBeside (n ∷ []) h d.hub
       → ((replies : ℕ → List ℕ) (ns ms : List NoteValue) → d.told ≡ Some ms → Holds b replies ns a now views None
       → Kept (meaning_of b replies) b.config b.table (ns ++ n ∷ []) d now views None × AreSound (meaning_of b replies) b.config (ns ++ n ∷ []))
       → KeptAll b a now views None → KeptAll b (server d.hub end d.told) now views None
-  keep_shut n d end unopened noted table grows shuts turnless silent tells_by step =
+  keep_shut n d end unopened noted table grows shuts turnless silent tells_by rest still counts step =
       keep_notes b (n ∷ []) a (server d.hub end d.told) now now views views None None
       (grows_from (server d.hub end d.told) (grows_then m d (server d.hub end d.told) grows (grows_shut conn.0 d.hub d.net end d.told shuts))) noted (λ c. ap (λ (z : Bool). z || false) (unopened c)) table
       (ap (λ (z : Bool). z || false) turnless) (ap (λ (z : Bool). z || false) silent) tells_by
+      (counts_beside (n ∷ []) a (server d.hub end d.told) (ap (λ (z : Bool). z && true) rest) (ap (λ (z : Bool). z || false) still) counts)
       (λ replies ns ms tells told x.
       let got = step replies ns ms told x in
       (kept_shut (meaning_of b replies) b.config b.table (ns ++ n ∷ []) d now views got.0 conn.0 end shuts, got.1))
 
   pub keep_busy : (d : Server) (end : NetState) → Arrives Busy conn.0 m d → Appends nothing m d → IsTable (table_of d.hub) → Shuts conn.0 d.net end
       → KeptAll b a now views None → KeptAll b (server d.hub end d.told) now views None
-  keep_busy d end arrives app table shuts = keep_shut (note.busy conn.0) d end (λ c. refl) arrives.2.advances.told table (grows_makes (note.busy conn.0 ∷ []) m d arrives.2) shuts refl refl arrives.2.advances.tells
+  keep_busy d end arrives app table shuts = keep_shut (note.busy conn.0) d end (λ c. refl) arrives.2.advances.told table (grows_makes (note.busy conn.0 ∷ []) m d arrives.2) shuts refl refl arrives.2.advances.tells refl refl arrives.2.advances.counts
       (λ replies ns ms told x. let r = meaning_of b replies in (
         kept_busy r b.config b.table ns a now views x.kept conn net d ms few next arrives app told,
         (sound_comes r b.config Busy ns conn.0 m d (agrees_then replies ns x) none whole x.kept.unlike x.kept.configured above arrives x.sound).0,
@@ -137,7 +138,7 @@ module _ {S : Type 0} (b : Beginning S) (conn : Conn) (h : HubState) (before net
 
   pub keep_memory : (d : Server) (end : NetState) → Arrives Memory conn.0 m d → Appends nothing m d → IsTable (table_of d.hub) → Shuts conn.0 d.net end
       → KeptAll b a now views None → KeptAll b (server d.hub end d.told) now views None
-  keep_memory d end arrives app table shuts = keep_shut (note.no_room conn.0) d end (λ c. refl) arrives.2.advances.told table (grows_makes (note.no_room conn.0 ∷ []) m d arrives.2) shuts refl refl arrives.2.advances.tells
+  keep_memory d end arrives app table shuts = keep_shut (note.no_room conn.0) d end (λ c. refl) arrives.2.advances.told table (grows_makes (note.no_room conn.0 ∷ []) m d arrives.2) shuts refl refl arrives.2.advances.tells refl refl arrives.2.advances.counts
       (λ replies ns ms told x. let r = meaning_of b replies in (
         kept_memory r b.config b.table ns a now views x.kept conn net d ms few next arrives app told,
         (sound_comes r b.config Memory ns conn.0 m d (agrees_then replies ns x) none whole x.kept.unlike x.kept.configured above arrives x.sound).0,
@@ -146,7 +147,7 @@ module _ {S : Type 0} (b : Beginning S) (conn : Conn) (h : HubState) (before net
   -- the loop had too little memory for it, and noted that
   pub keep_no_room : (end : NetState) (t' : Option (List NoteValue)) → IsNoted t (note.no_room conn.0) t' → Shuts conn.0 net end → nat_eq (length h.entries) h.config.max_conns ≡ false
       → KeptAll b a now views None → KeptAll b (server h end t') now views None
-  keep_no_room end t' noted shuts room = keep_shut (note.no_room conn.0) (server h net t') end (λ c. refl) (told_one t t' (note.no_room conn.0) noted) whole (grows_noted (note.no_room conn.0) h h net t t' noted) shuts refl refl (λ _ c. refl)
+  keep_no_room end t' noted shuts room = keep_shut (note.no_room conn.0) (server h net t') end (λ c. refl) (told_one t t' (note.no_room conn.0) noted) whole (grows_noted (note.no_room conn.0) h h net t t' noted) shuts refl refl (λ _ c. refl) refl refl (λ _ c there. (there, refl))
       (λ replies ns ms told x. let r = meaning_of b replies in (
         kept_no_room r b.config b.table ns a now views x.kept conn net (server h net t') ms few next refl refl (told_one t t' (note.no_room conn.0) noted) told,
         sound_no_room r b.config b.table ns a now views x.kept conn net next whole above none x.sound room,
@@ -155,11 +156,42 @@ module _ {S : Type 0} (b : Beginning S) (conn : Conn) (h : HubState) (before net
   -- there are as many as there may be, which the loop noted
   pub keep_full : (end : NetState) (t' : Option (List NoteValue)) → IsNoted t (note.busy conn.0) t' → Shuts conn.0 net end → nat_eq (length h.entries) h.config.max_conns ≡ true
       → KeptAll b a now views None → KeptAll b (server h end t') now views None
-  keep_full end t' noted shuts full = keep_shut (note.busy conn.0) (server h net t') end (λ c. refl) (told_one t t' (note.busy conn.0) noted) whole (grows_noted (note.busy conn.0) h h net t t' noted) shuts refl refl (λ _ c. refl)
+  keep_full end t' noted shuts full = keep_shut (note.busy conn.0) (server h net t') end (λ c. refl) (told_one t t' (note.busy conn.0) noted) whole (grows_noted (note.busy conn.0) h h net t t' noted) shuts refl refl (λ _ c. refl) refl refl (λ _ c there. (there, refl))
       (λ replies ns ms told x. let r = meaning_of b replies in (
         kept_full r b.config b.table ns a now views x.kept conn net next whole above none x.sound few (server h net t') ms refl refl (told_one t t' (note.busy conn.0) noted) told,
         sound_busy r b.config b.table ns a now views x.kept conn net next whole above none x.sound full,
       ))
+
+-- ---- notes of a tick, and that connections are finished
+
+tick_unopened : (c : ℕ) (ns : List NoteValue) → list_all is_of_tick ns ≡ true → is_opened_in c ns ≡ false
+tick_unopened c ns e = none_follow is_of_tick (is_opened c) one ns e
+  where
+    one : (n : NoteValue) → is_of_tick n ≡ true → is_opened c n ≡ false
+    one (note.opened d route param) h = clash false refl h
+    one _ h = refl
+
+tick_turnless : (ns : List NoteValue) → list_all is_of_tick ns ≡ true → list_any is_turn ns ≡ false
+tick_turnless ns e = none_follow is_of_tick is_turn one ns e
+  where
+    one : (n : NoteValue) → is_of_tick n ≡ true → is_turn n ≡ false
+    one note.turn h = clash false refl h
+    one _ h = refl
+
+tick_silent : (ns : List NoteValue) → list_all is_of_tick ns ≡ true → list_any is_telling ns ≡ false
+tick_silent ns e = none_follow is_of_tick is_telling one ns e
+  where
+    one : (n : NoteValue) → is_of_tick n ≡ true → is_telling n ≡ false
+    one (note.told c dropped drained) h = clash false refl h
+    one _ h = refl
+
+finishes_uncounted : (cs : List ℕ) → list_all is_uncounted (finishes cs) ≡ true
+finishes_uncounted [] = refl
+finishes_uncounted (c ∷ cs) = finishes_uncounted cs
+
+finishes_unticking : (cs : List ℕ) → list_any is_ticking (finishes cs) ≡ false
+finishes_unticking [] = refl
+finishes_unticking (c ∷ cs) = finishes_unticking cs
 
 -- ---- answers of the net, and the end of a turn
 
@@ -173,7 +205,7 @@ module _ {S : Type 0} (b : Beginning S) (h : HubState) (before net : NetState) (
   keep_answer answer next step = keep_on b was (server h net t) now now views views None None (grows_next answer h before net t next) (opens_same was (server h net t) refl)
       (λ replies ns ms known tells told agree few x.
       let is : ns ≡ ms = let z : Some ns ≡ Some ms = sym known ∙ told in cc in
-      subst (λ (z : List NoteValue). Holds b replies z (server h net t) now views None) is (record { kept = step replies ns x.kept; sound = x.sound; whole = x.whole; told = x.told }))
+      subst (λ (z : List NoteValue). Holds b replies z (server h net t) now views None) is (record { kept = step replies ns x.kept; sound = x.sound; whole = x.whole; told = x.told; ticked = x.ticked }))
 
   -- a connection can be read
   pub keep_readable : (conn : Conn) → Nexts (event.Readable conn) before net → KeptAll b was now views None → KeptAll b (server h net t) now views None
@@ -184,15 +216,24 @@ module _ {S : Type 0} (b : Beginning S) (h : HubState) (before net : NetState) (
   keep_writable conn next = keep_answer (event.Writable conn) next (λ replies ns k. kept_writable (meaning_of b replies) b.config b.table ns was now views k conn net next)
 
   -- time went by
-  pub keep_tick : (d : Server) → ((c : ℕ) → due_at h c ≡ None) → Nexts event.Tick before net → length before.passed < 2 ^ 64 - 1 → Makes (note.tick ∷ []) (server h net t) d → Appends nothing (server h net t) d → IsTable (table_of d.hub)
+  pub keep_tick : (d : Server) → ((c : ℕ) → due_at h c ≡ None) → Nexts event.Tick before net → length before.passed < 2 ^ 64 - 1 → Ticks (server h net t) d → IsTable (table_of d.hub)
       → KeptAll b was now views None → KeptAll b d now views None
-  keep_tick d none next few makes app whole =
-      keep_notes b (note.tick ∷ []) was d now now views views None None (grows_then was (server h net t) d (grows_next event.Tick h before net t next) (grows_makes (note.tick ∷ []) (server h net t) d makes))
-      makes.advances.told (λ c. refl) whole refl refl makes.advances.tells
-      (λ replies ns ms tells told x. let r = meaning_of b replies in (
-        kept_tick r b.config b.table ns was now views x.kept net d ms few next makes app told x.whole whole,
-        sound_time r b.config ns was x.kept.agrees none x.sound,
-      ))
+  keep_tick d none next few x whole =
+      let m = server h net t in
+      let adv = tick_advances m d x in
+      keep_on b was d now now views views None None (grows_then was m d (grows_next event.Tick h before net t next) (grows_advances (note.tick ∷ x.rest) m d adv))
+      (opens_none (note.tick ∷ x.rest) was d adv.told (λ c. tick_unopened c x.rest x.of_tick))
+      (λ replies ns ms known tells told agree items y.
+      let r = meaning_of b replies in
+      let both = kept_tick r b.config b.table ns was now views y.kept net d ms x few next told y.whole whole in
+      let agrees : Agrees (world r ns) ns m = agrees_now r b.config b.table ns was now views y.kept net (next.net.tells ∙ tells) (next.told tells).traffic in
+      record {
+        kept = both.1;
+        sound = subst (λ (z : List NoteValue). AreSound r b.config z) (sym both.0) (sound_time r b.config ns m d x agrees none y.sound).0;
+        whole = whole;
+        told = subst (λ (z : List NoteValue). IsTold r z d.hub) (sym both.0) (told_call r ns (note.tick ∷ x.rest) h d.hub (tick_turnless x.rest x.of_tick) (tick_silent x.rest x.of_tick) adv.tells y.told);
+        ticked = subst (λ (z : List NoteValue). IsTicked r z d.hub) (sym both.0) (ticked_tick r ns m d x y.whole.numbers agrees y.ticked);
+      })
 
   -- what is held is offered
   keep_offered : (conn : Conn) (d : Server) → Nexts (event.Writable conn) before net → Offers conn.0 (server h net t) d → KeptAll b was now views None → KeptAll b d now views None
@@ -210,6 +251,8 @@ module _ {S : Type 0} (b : Beginning S) (h : HubState) (before net : NetState) (
         sound = subst (λ (z : List NoteValue). AreSound r b.config z) (sym both.0) (sound_offer r b.config ns ms conn.0 m d offers at.agrees told at.follows.taken (few_of r ns (few_front r ns (sending ++ last) ms both.0 items)) x.sound).0;
         whole = offers.table;
         told = subst (λ (z : List NoteValue). IsTold r z d.hub) (sym both.0) (told_proceed r ns [] last m d offers.proceeds refl (finishes_turnless offers.finished) refl (finishes_silent offers.finished) x.told);
+        ticked = subst (λ (z : List NoteValue). IsTicked r z d.hub) (sym both.0)
+            (ticked_proceed r ns [] last m d offers.proceeds refl (finishes_uncounted offers.finished) refl (finishes_unticking offers.finished) offers.appends.lines.config x.ticked);
       })
 
   -- where the connection is there, and else nothing is
@@ -236,4 +279,8 @@ module _ {S : Type 0} (b : Beginning S) (h : HubState) (before net : NetState) (
         whole = whole;
         told = subst (λ (z : List NoteValue). IsTold r z d.hub) (sym both.0)
             (told_end r ns (server h net t) d ends (subst (λ (z : List NoteValue). HoldsAs r z d.hub) both.0 (holds_as r ms d both.1.agrees settled (few_of r ms items) both.1.follows.taken)) x.told);
+        ticked = subst (λ (z : List NoteValue). IsTicked r z d.hub) (sym both.0)
+            (ticked_proceed r ns [] (finishes ends.finished ++ note.turn ∷ []) (server h net t) d ends.proceeds refl
+            (all_then is_uncounted (finishes ends.finished) (note.turn ∷ []) (finishes_uncounted ends.finished) refl) refl
+            (none_then is_ticking (finishes ends.finished) (note.turn ∷ []) (finishes_unticking ends.finished) refl) app.lines.config x.ticked);
       })

@@ -8,6 +8,7 @@ pub use Rattle.std.specs.Map.{lookup}
 pub use Rattle.std.specs.Ordering.{eq_by_cmp, nat_cmp}
 pub use Rattle.std.specs.Str.{is_utf8}
 pub use Rattle.ws_kinds.specs.All.{ConfigValue, EventValue, NoteValue, OrderValue, close, publish, send, subscribe, unsubscribe, with_topic, without_topic, AreNoted, IsNoted}
+pub use Rattle.ws_kinds.specs.ConfigValue.{IsConfig}
 pub use Rattle.ws_kinds.specs.declared.conn.Conn.{Conn}
 pub use Rattle.ws_kinds.specs.declared.handler.Handler.{Ghosts as HandlerMeaning}
 pub use Rattle.ws_kinds.specs.declared.kind.Kind.{Kind}
@@ -28,14 +29,15 @@ pub use Rattle.frame_reader.specs.declared.reader.State.{State}
 pub use Rattle.frame_reader.specs.declared.reader.State.TheVariants.{AtFrameStart, Ended, InDataFrame}
 pub use Rattle.route_table.specs.All.{RouteTable}
 pub use Rattle.upgrade_head.specs.All.{Judged, Verdict, admit, answer_text, refuse, undecided, refusal_text, reply_text}
-pub use Rattle.run_meaning.specs.All.{is_accepted, is_gone_in, number_of, LivedThroughout, heard, is_frame_heard, last_frame, read, cause_of, closing, is_open, leaves_open, moved, phase, plain, topics_left, world, Follows, arrival, is_acceptance, is_of, is_turn, Standing, unless_gone, Answers, Performs, is_link_failure, is_outgoing, refuses, serves, AreAdmitted, AreReplies, is_opened, is_opened_in, Right, entries, Meaning, every_topic, BetweenTurns, is_reading, after_turn, at_first, Step, by_note, by_order, notes_of, of_notes, standings_after, has_news, is_telling, AreTold, tell}
-pub use Rattle.hub_lines.specs.All.{Settled, ShortRings, Ties, nothing, only, served, Entry, HubState, PartingValue, Server, TellingValue, entry_at, entry_of, has_entry, is_gone, is_present, phase_at, ring_at, server, is_silent}
-pub use Rattle.hub_notes.specs.All.{Arrives, Makes, has_frames, Advances, Appends, Proceeds, RingsWait, Waits, NetAfter, RoseBy, NoneToTell, news_at, Progress, due_at, progress_after, progress_after_all, progress_at, progress_by, progress_by_steps, progress_obeys, standings_at, AreAbove, AreRising, IsTable, TakesDue, table_of, TellsBy, tell_at, tell_of, EndsTurn, Offers, finishes}
+pub use Rattle.run_meaning.specs.All.{is_accepted, is_gone_in, number_of, LivedThroughout, heard, is_frame_heard, last_frame, read, cause_of, closing, is_open, leaves_open, moved, phase, plain, topics_left, world, Follows, arrival, is_acceptance, is_of, is_turn, Standing, unless_gone, Answers, Performs, is_link_failure, is_outgoing, refuses, serves, AreAdmitted, AreReplies, is_opened, is_opened_in, Right, entries, Meaning, every_topic, BetweenTurns, is_reading, after_turn, at_first, Step, by_note, by_order, notes_of, of_notes, standings_after, has_news, is_telling, AreTold, tell, is_ticking, is_tick, is_uncounted, Timely}
+pub use Rattle.hub_lines.specs.All.{Settled, ShortRings, Ties, nothing, only, served, Entry, HubState, PartingValue, Server, TellingValue, entry_at, entry_of, has_entry, is_gone, is_present, phase_at, ring_at, server, is_silent, no_entry}
+pub use Rattle.hub_notes.specs.All.{Arrives, Makes, has_frames, Advances, Appends, Proceeds, RingsWait, Waits, NetAfter, RoseBy, NoneToTell, news_at, Progress, due_at, progress_after, progress_after_all, progress_at, progress_by, progress_by_steps, progress_obeys, standings_at, AreAbove, AreRising, IsTable, TakesDue, table_of, TellsBy, tell_at, tell_of, EndsTurn, Offers, finishes, Does, CountsBeside, CountsBy, SameCounts, counts_at, Ticks, is_of_tick}
 pub use Rattle.hub_notes.specs.declared.arrival.Arrival.TheVariants.{Busy, Memory, Taken}
 pub use Rattle.hub_table.specs.All.{parting_value}
 pub use Rattle.hub_core.specs.All.{at, GivesOctets, LosesLink, Notes, Sends}
 pub use Rattle.run_laws.specs.All.{Agrees, HearsFrames, HearsHead, IsFed, IsRead, ReaderView, reader_view, is_of_orders}
 pub use Rattle.run_told.specs.All.{KeepsOwed, TellsAll, TellsTo, HoldsAs, IsTold, TellsNext}
+pub use Rattle.run_ticks.specs.All.{IsTicked}
 pub use Rattle.run_kept.specs.All.{AreThere, backlog_at, event_for, HearsAt, IntakeView, Kept, RestsAt, SameButReader, Shows, AreSound, is_inner}
 pub use Rattle.loop_runner.specs.Events.{IsSound}
 pub use Rattle.loop_runner.specs.Heads.{decision_seen}

@@ -20,6 +20,7 @@ use Rattle.hub_lines.specs.State.{Server}
 use Rattle.hub_notes.specs.Table.{IsTable, table_of}
 use Rattle.run_laws.specs.Readers.{ReaderView, reader_view}
 use Rattle.run_told.specs.Tellings.{IsTold}
+use Rattle.run_ticks.specs.Counts.{IsTicked}
 use Rattle.run_kept.specs.Sounds.{AreSound}
 use Rattle.run_kept.specs.Kept.{IntakeView, Kept}
 use Rattle.run_kept.specs.Ends.{backlog_at}
@@ -67,12 +68,14 @@ beginning handler start config table = record { start = start; after = handler.a
 abbrev pub meaning_of : {State : Type 0} → Beginning State → (ℕ → List ℕ) → run.Server State
 meaning_of b replies = served_by b.start b.after b.said every_topic replies
 
--- what holds for one meaning: it is kept, each note is sound, the hub's table is one, and what the handler was told is right
+-- what holds for one meaning: it is kept, each note is sound, the hub's table is one, and what the handler was told is right, and who
+-- was pinged and ended by ticks
 pub record Holds {State : Type 0} (b : Beginning State) (replies : ℕ → List ℕ) (notes : List NoteValue) (s : Server) (now : State) (views : ℕ → IntakeView) (reading : Option ℕ) : Type 0 where
   pub kept : Kept (meaning_of b replies) b.config b.table notes s now views reading
   pub sound : AreSound (meaning_of b replies) b.config notes
   pub whole : IsTable (table_of s.hub)
   pub told : IsTold (meaning_of b replies) notes s.hub
+  pub ticked : IsTicked (meaning_of b replies) notes s.hub
 
 -- at no time has a connection as many items as can be counted
 abbrev pub AreFew : {State : Type 0} → run.Server State → List NoteValue → Type 0

@@ -142,6 +142,42 @@ impl Handler for Announcer {
     }
 }
 
+/// A handler that answers each event by two closes.
+#[derive(Drop)]
+struct Closer;
+
+impl Handler for Closer {
+    ghost use Rattle.std.specs.Prelude.{⊤, [], ◌∷◌, codes};
+    ghost use Rattle.std.proofs.Common.{arith, rules};
+    ghost use Rattle.ws_kinds.specs.OrderValue.{close};
+
+    ghost State = { ⊤ };
+
+    ghost state = { λ closer. tt {0} };
+
+    ghost after = { λ state _. state };
+
+    ghost said = { λ _ event. close 1000 (codes "bye") ∷ close 1001 [] ∷ [] };
+
+    ghost said_few = { λ now event. Prim.grind (arith, rules) };
+
+    fn on(&mut self, event: Event<'_>) {
+        let _ = event;
+    }
+
+    fn orders<'m>(&'m self, event: Event<'m>, out: &mut Orders<'m>) {
+        let _ = event;
+        out.push(Order::Close {
+            code: 1000,
+            reason: b"bye",
+        });
+        out.push(Order::Close {
+            code: 1001,
+            reason: b"",
+        });
+    }
+}
+
 /// An act of a schedule.
 #[derive(Clone, Copy)]
 enum Row<'a> {
@@ -237,6 +273,11 @@ fn opened(conn: Conn) -> Note<'static> {
     Note::Opened { conn, route, param }
 }
 
+fn not_open(conn: Conn, order: u8) -> Note<'static> {
+    let why = Why::NotOpen;
+    Note::Unserved { conn, order, why }
+}
+
 /// What an echo with so many connections at most tells over these acts, and how its run ends.
 #[derive(Drop)]
 struct Case<'a> {
@@ -289,6 +330,32 @@ fn a_head_in_pieces_and_a_message_are_answered(rt: HostRuntime) -> Result<(), Fa
     assert_eq!(rt; ran, case.ran);
     expect_notes(&rt, &out.watch, case.notes);
     assert_eq!(rt; out.net.taken(ONE), reply_and_hello(&rt)?.as_slice());
+    Ok(())
+}
+
+#[test]
+fn of_two_closes_in_the_answer_to_an_opening_one_is_served(rt: HostRuntime) -> Result<(), Fail> {
+    let notes = [
+        Note::Accepted(ONE),
+        given(ONE, 144),
+        opened(ONE),
+        took(ONE, 129),
+        took(ONE, 7),
+        not_open(ONE, 1),
+        Note::Closed {
+            conn: ONE,
+            code: 1000,
+            reason: b"bye",
+        },
+        not_open(ONE, 0),
+        not_open(ONE, 1),
+        Note::Turn,
+    ];
+    let rows = [Row::Arrive(ONE), Row::Octets(ONE, HEAD)];
+    let (out, ran) = run_with(&rt, &mut Closer, 2, &rows, 1)?;
+    assert_eq!(rt; ran, Ran::Stopped(1));
+    expect_notes(&rt, &out.watch, &notes);
+    assert!(rt; out.net.taken(ONE).ends_with(b"\x88\x05\x03\xe8bye"));
     Ok(())
 }
 

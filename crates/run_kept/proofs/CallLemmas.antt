@@ -1,11 +1,12 @@
 -- The notes of the calls of a hub are sound.
-use Rattle.run_kept.proofs.Below.{◌≡◌, ◌<◌, ◌≤◌, ℕ, List, [], ◌∷◌, ◌++◌, Option, Some, None, is_some, Bool, true, false, cond, nat_eq, ◌||◌, length, refl, sym, ap, ◌∙◌, subst, append-nil, append_assoc, arith, nat_tests, list_all, list_any, Phase, Head, Open, Leaving, Ending, Gone, ConfigValue, NoteValue, OrderValue, conn_of, is_of, is_some_of, is_acceptance, is_unserved, gather, has_number, accepted_by, is_accepted, is_gone_in, closes, world, unless_gone, is_reading, Sound, NoneDue, entries, may_follow_gone, accepted_more, sound_one, HubState, Server, has_entry, entry_at, phase_at, Progress, progress_at, progress_after, progress_after_all, may_come, may_all_come, progress_obeys, progress_by_steps, may_step, may_all_step, standings_at, due_at, Advances, Proceeds, by_cases, clash, and_left, and_right, itself, Agrees, told_is, agrees_due, agrees_told, unlike_more, new_above, agrees_entries, AreUnlike, IsTable, table_of, gather-append, Arrival, Taken, Busy, Memory, Arrives, ServesAll, by_note, by_order, notes_of, Step, orders_notes, unaccepted_left, all_then, IsHere, Shows, AreSound, arrival_note, is_inner, is_refusal_of}
+use Rattle.run_kept.proofs.Below.{◌≡◌, ◌<◌, ◌≤◌, ℕ, List, [], ◌∷◌, ◌++◌, Option, Some, None, is_some, Bool, true, false, cond, nat_eq, ◌||◌, length, refl, sym, ap, ◌∙◌, subst, append-nil, append_assoc, arith, nat_tests, list_all, list_any, Phase, Head, Open, Leaving, Ending, Gone, ConfigValue, NoteValue, OrderValue, conn_of, is_of, is_some_of, is_acceptance, is_unserved, gather, has_number, accepted_by, is_accepted, is_gone_in, closes, world, unless_gone, is_reading, Sound, NoneDue, entries, may_follow_gone, accepted_more, sound_one, HubState, Server, has_entry, entry_at, phase_at, Progress, progress_at, progress_after, progress_after_all, may_come, may_all_come, progress_obeys, progress_by_steps, may_step, may_all_step, standings_at, due_at, Advances, Proceeds, by_cases, clash, and_left, and_right, itself, Agrees, told_is, agrees_due, agrees_told, unlike_more, new_above, agrees_entries, AreUnlike, IsTable, table_of, gather-append, Arrival, Taken, Busy, Memory, Arrives, Ticks, ServesAll, by_note, by_order, notes_of, Step, orders_notes, unaccepted_left, all_then, IsHere, Shows, AreSound, arrival_note, is_inner, is_refusal_of}
 use Rattle.ws_kinds.specs.NoteValue as note
 use Rattle.run_meaning.specs.Server as run
 use Rattle.hub_lines.specs.State as hub
 use Rattle.run_kept.proofs.KnownLemmas.{gone_accepted, here_by, here_note, here_notes, here_order, shows_sound, shows_call, shows_one, shows_told}
 use Rattle.run_kept.proofs.PassingLemmas.{same_numbers}
 use Rattle.run_kept.proofs.ReadingCalls.{no_numbers}
+use Rattle.run_kept.proofs.TickLemmas.{tick_advances, tick_inner}
 use Rattle.run_kept.proofs.PlaceLemmas.{outgoing_one, outgoing_inner, inner_unaccepted, all_front, all_back, some_comes, own_of, comes_there, sound_more, sound_inner, sound_told, sound_arrival, sound_given, sound_tick}
 
 -- who is named at a place of the notes of a call is there
@@ -93,8 +94,24 @@ module _ {S : Type 0} (r : run.Server S) (f : ConfigValue) where
       let here = shows_sound r f ns s sound agrees c in
       sound_one r f ns (note.given c count) (sound_given r f ns c count some (here.accepted there) (here.stays there) (none_due r ns s agrees none)) sound
 
-  pub sound_time : (ns : List NoteValue) (s : Server) → Agrees (world r ns) ns s → ((d : ℕ) → due_at s.hub d ≡ None) → AreSound r f ns → AreSound r f (ns ++ note.tick ∷ [])
-  sound_time ns s agrees none sound = sound_one r f ns note.tick (sound_tick r f ns (none_due r ns s agrees none)) sound
+  pub sound_time : (ns : List NoteValue) (a b : Server) (x : Ticks a b) → Agrees (world r ns) ns a → ((d : ℕ) → due_at a.hub d ≡ None) → AreSound r f ns → AreSound r f (ns ++ note.tick ∷ x.rest) × Shows (ns ++ note.tick ∷ x.rest) b
+  sound_time ns a b x agrees none sound =
+      let adv = tick_advances a b x in
+      let shows = shows_sound r f ns a sound agrees in
+      let inner = tick_inner x.rest x.of_tick in
+      (sound_more r f ns (note.tick ∷ x.rest) (at shows adv inner) sound, shows_call (note.tick ∷ x.rest) ns a b (λ c. inner_unaccepted x.rest c inner) adv shows)
+    where
+      at : Shows ns a → Advances (note.tick ∷ x.rest) a b → list_all is_inner x.rest ≡ true → (xs ys : List NoteValue) (n : NoteValue) → note.tick ∷ x.rest ≡ xs ++ n ∷ ys → Sound r f (ns ++ xs) n
+      at shows adv inner [] ys n e =
+          let h : note.tick ≡ n = cc in
+          subst (λ (z : NoteValue). Sound r f (ns ++ []) z) h (subst (λ (z : List NoteValue). Sound r f z note.tick) (sym (append-nil ns)) (sound_tick r f ns (none_due r ns a agrees none)))
+      at shows adv inner (m ∷ xs) ys n e =
+          let h : note.tick ≡ m = cc in
+          let g : x.rest ≡ xs ++ n ∷ ys = cc in
+          let all : list_all is_inner (xs ++ n ∷ ys) ≡ true = ap (list_all is_inner) (sym g) ∙ inner in
+          subst (λ (z : NoteValue). Sound r f (ns ++ z ∷ xs) n) h
+          (inner_there (note.tick ∷ x.rest) ns (note.tick ∷ xs) ys n a b shows adv (ap (λ (z : List NoteValue). note.tick ∷ z) g) (λ c. inner_unaccepted xs c (all_front is_inner xs (n ∷ ys) all))
+          (and_left (is_inner n) (list_all is_inner ys) (all_back is_inner xs (n ∷ ys) all)))
 
   -- ---- arrivals
 

@@ -22,7 +22,7 @@ outgoing_idle (note.dropped c i h) e = refl
 outgoing_idle (note.gone c left) e = refl
 outgoing_idle _ e = clash false refl e
 
-idle_beside : (c : ℕ) (n : NoteValue) → is_idle n ≡ true → is_beside c n ≡ true
+pub idle_beside : (c : ℕ) (n : NoteValue) → is_idle n ≡ true → is_beside c n ≡ true
 idle_beside c n e = ap (λ (z : Bool). z || not (is_of c n)) e
 
 pub outgoing_beside : (c : ℕ) (ns : List NoteValue) → list_all is_outgoing ns ≡ true → list_all (is_beside c) ns ≡ true

@@ -7,6 +7,7 @@ pub mod Resting
 pub mod PassingLemmas
 pub mod UnknownLemmas
 pub mod ArrivingLemmas
+pub mod TickLemmas
 pub mod TurningLemmas
 pub mod RightLemmas
 pub mod EndLemmas

@@ -1,5 +1,5 @@
 -- Single notes that are sound at their place, and lists of them.
-use Rattle.run_kept.proofs.Below.{◌≡◌, ◌≤◌, ℕ, List, [], ◌∷◌, ◌++◌, Option, Some, None, is_some, Bool, true, false, cond, nat_eq, ◌&&◌, ◌||◌, length, refl, sym, ap, ◌∙◌, subst, arith, nat_tests, list_all, list_any, or-true, PeerEnd, LinkFailed, Idle, Finished, Phase, ConfigValue, NoteValue, all_spelled, is_of, conn_of, has_number, accepted_by, is_accepted, is_gone_in, taken, closes, all_follow, gathers_none, phase, world, kept, is_ending, Sound, NoneDue, is_arrival, is_busy, is_from_outside, may_follow_gone, entries, early, late, place_of, is_outgoing, Progress, progress_after_all, may_come, may_all_come, clash, and_left, and_right, may_then, AreSound, is_inner}
+use Rattle.run_kept.proofs.Below.{◌≡◌, ◌≤◌, ℕ, List, [], ◌∷◌, ◌++◌, Option, Some, None, is_some, Bool, true, false, cond, nat_eq, ◌&&◌, length, refl, sym, ap, ◌∙◌, subst, arith, nat_tests, list_all, PeerEnd, LinkFailed, Idle, Finished, Phase, ConfigValue, NoteValue, all_spelled, is_of, conn_of, has_number, accepted_by, is_accepted, is_gone_in, taken, closes, all_follow, gathers_none, phase, world, kept, is_ending, Sound, NoneDue, is_arrival, is_busy, is_from_outside, may_follow_gone, entries, early, late, place_of, is_outgoing, Progress, progress_after_all, may_come, may_all_come, clash, and_left, and_right, may_then, AreSound, is_inner}
 use Rattle.ws_kinds.specs.NoteValue as note
 use Rattle.run_meaning.specs.Server as run
 

@@ -1,5 +1,5 @@
 -- What is kept after a turn is what the relation of a run asks for.
-use Rattle.run_kept.proofs.Below.{◌≡◌, ◌≢◌, ◌<◌, ◌^◌, ◌-◌, inl, inr, ◌⊎◌, ℕ, List, [], ◌∷◌, ◌++◌, Option, Some, None, Bool, true, false, cond, not, ◌&&◌, length, refl, sym, ap, ◌∙◌, subst, Phase, Head, Open, Leaving, Ending, Gone, ConfigValue, NoteValue, RouteTable, closes, is_accepted, is_gone_phase, phase, plain, world, heard, last_frame, Lived, Carries, Carried, all_spelled, LeftAtEnd, is_reading, is_ending, Sound, Right, Server, has_entry, entry_at, is_present, phase_at, ring_at, held_at, held_octets, Settled, Ties, settled_held, RingsWait, unless_gone, due_at, by_cases, clash, away_by_phase, there_by_phase, away_by_gone, rests_of, agrees_due, agrees_told, agrees_untold, agrees_hub_phase, ReaderView, HearsAll, agrees_carried, agrees_phase, accepted_known, unaccepted_phase, head_waits, frames_end, lived_of_all, lived_of_front, AreThere, backlog_at, AreRead, IntakeView, HearsAt, RestsAt, Kept, Fair, ToldRight, AreTold, accepted_more, agrees_fair}
+use Rattle.run_kept.proofs.Below.{◌≡◌, ◌≢◌, ◌<◌, ◌^◌, ◌-◌, inl, inr, ◌⊎◌, ℕ, List, [], ◌∷◌, ◌++◌, Option, Some, None, Bool, true, false, cond, not, ◌&&◌, length, refl, sym, ap, ◌∙◌, subst, Phase, Head, Open, Leaving, Ending, Gone, ConfigValue, NoteValue, RouteTable, closes, is_accepted, is_gone_phase, phase, plain, world, heard, last_frame, Lived, Carries, Carried, all_spelled, LeftAtEnd, is_reading, is_ending, Sound, Right, Server, has_entry, entry_at, is_present, phase_at, ring_at, held_at, held_octets, Settled, Ties, settled_held, RingsWait, unless_gone, due_at, by_cases, clash, away_by_phase, there_by_phase, away_by_gone, rests_of, agrees_due, agrees_told, agrees_untold, agrees_hub_phase, ReaderView, HearsAll, agrees_carried, agrees_phase, accepted_known, unaccepted_phase, head_waits, frames_end, lived_of_all, lived_of_front, AreThere, backlog_at, AreRead, IntakeView, HearsAt, RestsAt, Kept, Fair, Timely, ToldRight, AreTold, accepted_more, agrees_fair}
 use Rattle.ws_kinds.specs.NoteValue as note
 use Rattle.run_meaning.specs.Server as run
 use Rattle.run_meaning.specs.Kept as meaning
@@ -89,8 +89,8 @@ module _ {S : Type 0} (r : run.Server S) (f : ConfigValue) (t : RouteTable) (ns 
       agrees_fair r f ns s k.agrees k.configured before rest c i h e (accepted_known r c ns there) (few c)
 
   right_by : (held : ℕ → List ℕ) → IsHeld held → Settled s.hub → ((c : ℕ) → length (plain r ns c) < 2 ^ 64 - 1)
-      → ((before rest : List NoteValue) (n : NoteValue) → ns ≡ before ++ n ∷ rest → Sound r f before n) → ToldRight r ns → Right r f t ns s.net now held
-  right_by held is_held settled few sound told = record {
+      → ((before rest : List NoteValue) (n : NoteValue) → ns ≡ before ++ n ∷ rest → Sound r f before n) → ToldRight r ns → Timely r f ns → Right r f t ns s.net now held
+  right_by held is_held settled few sound told timely = record {
     ordered = k.ordered;
     follows = k.follows;
     lived = kept_lived;
@@ -98,6 +98,7 @@ module _ {S : Type 0} (r : run.Server S) (f : ConfigValue) (t : RouteTable) (ns 
     state = k.state;
     fair = fair_there few sound;
     told = told;
+    timely = timely;
     sound = sound;
   }
 
@@ -105,8 +106,8 @@ module _ {S : Type 0} (r : run.Server S) (f : ConfigValue) (t : RouteTable) (ns 
   backlog_is c present = ap (λ (z : Bool). cond z (ring_at s.hub c) []) present
 
   pub kept_right_there : Settled s.hub → ((c : ℕ) → length (plain r ns c) < 2 ^ 64 - 1) → ((before rest : List NoteValue) (n : NoteValue) → ns ≡ before ++ n ∷ rest → Sound r f before n)
-      → ToldRight r ns → Right r f t ns s.net now (backlog_at s.hub)
-  kept_right_there settled few sound told = right_by (backlog_at s.hub) backlog_is settled few sound told
+      → ToldRight r ns → Timely r f ns → Right r f t ns s.net now (backlog_at s.hub)
+  kept_right_there settled few sound told timely = right_by (backlog_at s.hub) backlog_is settled few sound told timely
 
   -- ---- what holds after a turn
 

@@ -1,10 +1,11 @@
 -- What a server keeps while it starts, while connections are turned away, and while time goes by and turns end.
-use Rattle.run_kept.proofs.Below.{◌≡◌, ◌<◌, ◌^◌, ◌-◌, ℕ, List, [], ◌∷◌, ◌++◌, Some, None, Bool, true, false, cond, ◌&&◌, length, refl, sym, ap, ◌∙◌, subst, list_all, Conn, ConfigValue, NoteValue, NetState, Nexts, Shuts, SameTraffic, is_rest, NetEvent, RouteTable, gather, has_number, accepted_by, is_accepted, world, phase, heard, last_frame, Follows, Mark, marks_by, marks_of, arrival, tick, turn, ordered_none, HubState, Server, Entry, server, has_entry, taken_of, nothing, AreNoted, is_outgoing, Appends, clash, IsTable, table_of, Arrives, Makes, Busy, Memory, EndsTurn, finishes, Agrees, is_quiet, agrees_net, agrees_aside, told_is, agrees_quiet, agrees_last, agrees_first, FollowsBut, is_unread, follows_none, none_but, gathers_none, call_marked, next_but, next_unmarked, shut_follows, aside_but, busy_follows, no_room_follows, all_follow, proceeds_follows, IntakeView, HearsAt, RestsAt, Kept, is_passing, Proceeds, append-nil, gather-append, Offers, but_none, all_then}
+use Rattle.run_kept.proofs.Below.{◌≡◌, ◌<◌, ◌^◌, ◌-◌, ℕ, List, [], ◌∷◌, ◌++◌, Some, None, Bool, true, false, cond, ◌&&◌, length, refl, sym, ap, ◌∙◌, subst, list_all, Conn, ConfigValue, NoteValue, NetState, Nexts, Shuts, SameTraffic, is_rest, NetEvent, RouteTable, gather, has_number, accepted_by, is_accepted, world, phase, heard, last_frame, Follows, Mark, marks_by, marks_of, arrival, tick, turn, ordered_none, HubState, Server, Entry, server, has_entry, taken_of, nothing, AreNoted, is_outgoing, Appends, clash, Advances, Ticks, unread_accepts, unread_ended, unread_given, IsTable, table_of, Arrives, Makes, Busy, Memory, EndsTurn, finishes, Agrees, is_quiet, agrees_net, agrees_aside, told_is, agrees_quiet, agrees_last, agrees_first, FollowsBut, is_unread, follows_none, none_but, gathers_none, call_marked, next_but, next_unmarked, shut_follows, aside_but, busy_follows, no_room_follows, all_follow, proceeds_follows, IntakeView, HearsAt, RestsAt, Kept, is_passing, Proceeds, append-nil, gather-append, Offers, but_none, all_then}
 use Rattle.ws_kinds.specs.NoteValue as note
 use Rattle.link_trait.specs.declared.net.NetEvent.TheVariants as event
 use Rattle.run_meaning.specs.Server as run
 use Rattle.run_kept.proofs.EntryLemmas.{entry_before}
-use Rattle.run_kept.proofs.PassingLemmas.{same_told, passing_accepts, kept_passing}
+use Rattle.run_kept.proofs.PassingLemmas.{none_reads, same_numbers, same_told, passing_accepts, seen_beside, kept_plain, kept_passing}
+use Rattle.run_kept.proofs.TickLemmas.{agrees_tick, tick_accepts, tick_advances, tick_beside, tick_event, tick_unmarked, tick_unread, tick_unserved}
 
 -- ---- at first
 
@@ -104,15 +105,28 @@ module _ {S : Type 0} (r : run.Server S) (f : ConfigValue) (t : RouteTable) (ns 
       follows app.lines.config (λ c. (makes.advances.net.told tells).given c ∙ same.given c) entries
 
   -- time went by
-  pub kept_tick : (net : NetState) (b : Server) (after : List NoteValue) → length a.net.passed < 2 ^ 64 - 1 → Nexts event.Tick a.net net → Makes (note.tick ∷ []) (server a.hub net a.told) b → Appends nothing (server a.hub net a.told) b
-      → b.told ≡ Some after → IsTable (table_of a.hub) → IsTable (table_of b.hub) → Kept r f t (ns ++ note.tick ∷ []) b now is None
-  kept_tick net b after few next makes app told was table =
+  pub kept_tick : (net : NetState) (b : Server) (after : List NoteValue) (x : Ticks (server a.hub net a.told) b) → length a.net.passed < 2 ^ 64 - 1 → Nexts event.Tick a.net net → b.told ≡ Some after → IsTable (table_of a.hub) → IsTable (table_of b.hub)
+      → (after ≡ ns ++ note.tick ∷ x.rest) × Kept r f t after b now is None
+  kept_tick net b after x few next told was table =
       let tells : net.tells ≡ true = next.net.tells ∙ k.agrees.tells in
-      kept_one note.tick net b after tells (next.told k.agrees.tells).traffic makes app told refl refl
-      (none_but (ns ++ note.tick ∷ []) b.net
-      (call_marked ns (note.tick ∷ []) (tick ∷ []) (tick ∷ []) [] net b.net tells refl refl (λ c. refl) (λ c. refl) (λ c. refl) makes.advances.net makes.fails
+      let traffic = (next.told k.agrees.tells).traffic in
+      let adv : Advances (note.tick ∷ x.rest) (server a.hub net a.told) b = tick_advances (server a.hub net a.told) b x in
+      let app = (x.does r.reply).appends in
+      let unread : list_all is_unread (note.tick ∷ x.rest) ≡ true = tick_unread x.rest x.of_tick in
+      let given : (c : ℕ) → b.net.given c ≡ a.net.given c = λ c. (adv.net.told tells).given c ∙ traffic.given c in
+      let marks : gather marks_by (note.tick ∷ x.rest) ≡ tick ∷ [] = ap (λ (z : List Mark). tick ∷ z) (tick_unmarked x.rest x.of_tick) in
+      let kept : Kept r f t (ns ++ note.tick ∷ x.rest) b now is None =
+      kept_plain r f t ns (note.tick ∷ x.rest) a b now is is None None k (tick_event x.rest x.of_tick) (tick_unserved x.rest x.of_tick)
+      (agrees_tick (server a.hub net a.told) b x r ns after (agrees_now net tells traffic) told)
+      (none_but (ns ++ note.tick ∷ x.rest) b.net
+      (call_marked ns (note.tick ∷ x.rest) (tick ∷ []) (tick ∷ []) [] net b.net tells marks refl
+      (λ c. unread_accepts c (note.tick ∷ x.rest) unread) (λ c. unread_given c (note.tick ∷ x.rest) unread) (λ c. unread_ended c (note.tick ∷ x.rest) unread) adv.net x.fails
       (next_but event.Tick ns a.net net k.agrees.tells few next k.follows)))
-      (λ c there. entry_before c (note.tick ∷ []) (server a.hub net a.told) b makes.advances (unaccepted (note.tick ∷ []) refl c) was table there)
+      (same_numbers ns (note.tick ∷ x.rest) (tick_accepts x.rest x.of_tick) k.unlike) app.lines.config
+      (λ c. seen_beside r f t ns (note.tick ∷ x.rest) a b now is is None None k c (λ z. absurd (none_reads c z)) (tick_beside c x.rest x.of_tick) (given c) refl (λ free. free)
+      (λ there. entry_before c (note.tick ∷ x.rest) (server a.hub net a.told) b adv (unread_accepts c (note.tick ∷ x.rest) unread) was table there)) in
+      let is_after : after ≡ ns ++ note.tick ∷ x.rest = same_told after (ns ++ note.tick ∷ x.rest) b.told told kept.agrees.told in
+      (is_after, subst (λ (z : List NoteValue). Kept r f t z b now is None) (sym is_after) kept)
 
   -- a connection came, and there are as many as there may be, or there was too little memory for it in the hub
   pub kept_busy : (conn : Conn) (net : NetState) (b : Server) (after : List NoteValue) → length a.net.passed < 2 ^ 64 - 1 → Nexts (event.Accept conn) a.net net → Arrives Busy conn.0 (server a.hub net a.told) b

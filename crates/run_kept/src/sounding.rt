@@ -19,6 +19,7 @@ ghost use Rattle.run_kept.specs.Sounds.{AreSound};
 ghost use Rattle.hub_notes.specs.declared.arrival.Arrival.{Arrival};
 ghost use Rattle.hub_notes.specs.Answers.{Arrives};
 ghost use Rattle.hub_notes.specs.Serving.{ServesAll};
+ghost use Rattle.hub_notes.specs.Ticks.{Ticks};
 ghost use Rattle.hub_notes.specs.Turns.{finishes, EndsTurn, Offers};
 ghost use Rattle.run_kept.specs.Known.{Known, Shows};
 ghost use Rattle.run_kept.specs.Tests.{is_inner};
@@ -43,13 +44,14 @@ pub fn calls<H: Handler>()
         AreSound meaning config (notes ++ (first ++ (steps.sending ++ last))) × Shows (notes ++ (first ++ (steps.sending ++ last))) new }
 {}
 
-/// Octets came of a connection that is read, or time went by: the note is sound where no Closed event is due.
+/// Octets came of a connection that is read, or time went by: the notes are sound where no Closed event was due before.
 pub fn from_outside<H: Handler>()
     ensures octets { (meaning : Meaning H.State) (config : ConfigValue) (notes : List NoteValue) (conn count : ℕ) (s : Server) → Agrees (world meaning notes) notes s →
         ((other : ℕ) → due_at s.hub other ≡ None) → is_reading (phase_at s.hub conn) ≡ true → 1 ≤ count → AreSound meaning config notes →
         AreSound meaning config (notes ++ given conn count ∷ []) }
-    ensures time { (meaning : Meaning H.State) (config : ConfigValue) (notes : List NoteValue) (s : Server) → Agrees (world meaning notes) notes s → ((conn : ℕ) → due_at s.hub conn ≡ None) →
-        AreSound meaning config notes → AreSound meaning config (notes ++ tick ∷ []) }
+    ensures time { (meaning : Meaning H.State) (config : ConfigValue) (notes : List NoteValue) (old new : Server) (ticks : Ticks old new) → Agrees (world meaning notes) notes old →
+        ((conn : ℕ) → due_at old.hub conn ≡ None) → AreSound meaning config notes →
+        AreSound meaning config (notes ++ tick ∷ ticks.rest) × Shows (notes ++ tick ∷ ticks.rest) new }
 {}
 
 /// The handler is told of an end that is due, while the hub moves nobody.

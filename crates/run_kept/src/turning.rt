@@ -15,6 +15,7 @@ ghost use Rattle.run_meaning.specs.Server.{Server as Meaning};
 ghost use Rattle.run_meaning.specs.Lines.{plain};
 ghost use Rattle.run_meaning.specs.Settled as meant;
 ghost use Rattle.run_meaning.specs.Right.{Right, Sound};
+ghost use Rattle.run_meaning.specs.Timely.{Timely};
 ghost use Rattle.run_meaning.specs.Told.{AreTold, ToldRight};
 ghost use Rattle.hub_lines.specs.State.{Server, server};
 ghost use Rattle.hub_lines.specs.Calls.{Settled, Ties, nothing};
@@ -22,7 +23,7 @@ ghost use Rattle.hub_notes.specs.Fronts.{RingsWait};
 ghost use Rattle.hub_notes.specs.Progress.{due_at};
 ghost use Rattle.hub_notes.specs.Calls.{Appends};
 ghost use Rattle.hub_notes.specs.Table.{IsTable, table_of};
-ghost use Rattle.hub_notes.specs.Answers.{Makes};
+ghost use Rattle.hub_notes.specs.Ticks.{Ticks};
 ghost use Rattle.hub_notes.specs.Turns.{EndsTurn, Offers, finishes};
 ghost use Rattle.run_kept.specs.Ends.{AreThere, backlog_at};
 ghost use Rattle.run_kept.specs.Kept.{IntakeView, Kept};
@@ -37,12 +38,12 @@ pub fn at_first<H: Handler>()
         Kept meaning config table [] s now intakes None }
 {}
 
-/// Time went by, and the hub noted a tick.
+/// Time went by, and the hub counted each connection, pinged and ended those that are quiet for too long, and noted that.
 pub fn ticked<H: Handler>()
     ensures { (meaning : Meaning H.State) (config : ConfigValue) (table : RouteTable) (notes : List NoteValue) (old : Server) (now : H.State) (intakes : ℕ → IntakeView) →
-        Kept meaning config table notes old now intakes None → (net : NetState) (new : Server) (after : List NoteValue) → length old.net.passed < 2 ^ 64 - 1 →
-        Nexts event.Tick old.net net → Makes (note.tick ∷ []) (server old.hub net old.told) new → Appends nothing (server old.hub net old.told) new → new.told ≡ Some after →
-        IsTable (table_of old.hub) → IsTable (table_of new.hub) → Kept meaning config table (notes ++ note.tick ∷ []) new now intakes None }
+        Kept meaning config table notes old now intakes None → (net : NetState) (new : Server) (after : List NoteValue) (ticks : Ticks (server old.hub net old.told) new) →
+        length old.net.passed < 2 ^ 64 - 1 → Nexts event.Tick old.net net → new.told ≡ Some after → IsTable (table_of old.hub) → IsTable (table_of new.hub) →
+        (after ≡ notes ++ note.tick ∷ ticks.rest) × Kept meaning config table after new now intakes None }
 {}
 
 /// The net answered that a link takes octets again, and then the hub offered what it holds for that connection.
@@ -63,13 +64,13 @@ pub fn turn_ended<H: Handler>()
         (after ≡ notes ++ (ends.proceeds.sending ++ (finishes ends.finished ++ note.turn ∷ []))) × Kept meaning config table after new now intakes None }
 {}
 
-/// What is kept after a turn is right, where the counts of items are below their end, each note is sound, and what the handler was told
-/// is right: with what the rings hold of connections that are not gone.
+/// What is kept after a turn is right, where the counts of items are below their end, each note is sound, what the handler was told is
+/// right and the notes are timely: with what the rings hold of connections that are not gone.
 pub fn carried_right<H: Handler>()
     ensures { (meaning : Meaning H.State) (config : ConfigValue) (table : RouteTable) (notes : List NoteValue) (s : Server) (now : H.State) (intakes : ℕ → IntakeView) →
         Kept meaning config table notes s now intakes None → Settled s.hub → ((conn : ℕ) → length (plain meaning notes conn) < 2 ^ 64 - 1) →
         ((before rest : List NoteValue) (this : NoteValue) → notes ≡ before ++ this ∷ rest → Sound meaning config before this) →
-        ToldRight meaning notes → Right meaning config table notes s.net now (backlog_at s.hub) }
+        ToldRight meaning notes → Timely meaning config notes → Right meaning config table notes s.net now (backlog_at s.hub) }
 {}
 
 /// After the end of a turn all is settled, where no Closed event was due as it began, and the handler was told in it of those that had

@@ -24,7 +24,7 @@ pub use Rattle.run_meaning.specs.Life.{Carried, Carries, Heard, IsLife, Lived, L
 pub use Rattle.run_meaning.specs.Lines.{Line, World, after_own, answered, appended, cause_of, close_frame, closed_by_server, closing, conns_after, data_frame, event_of, first_world, is_frame, is_gone_phase, is_naming, is_open, is_refused, is_still, is_subscribed, leaves_alone, leaves_open, line_after, moved, noted, noted_all, obey, obeyed, orders_of, param_after, perform, phase, plain, put, route_after, run, sends, serve, step, topics_left, unknown, world}
 pub use Rattle.run_meaning.specs.Network.{Follows, Mark, is_aside, is_inner, marks_by, marks_of}
 pub use Rattle.run_meaning.specs.Network.Mark.{arrival, tick, turn}
-pub use Rattle.run_meaning.specs.Notes.{conn_of, is_acceptance, is_event, is_gone, is_gone_by, is_left, is_of, is_sending, is_some_of, is_turn, is_unserved, until, window}
+pub use Rattle.run_meaning.specs.Notes.{conn_of, is_acceptance, is_event, is_from_outside, is_gone, is_gone_by, is_left, is_of, is_sending, is_some_of, is_turn, is_unserved, until, window}
 pub use Rattle.run_meaning.specs.Orders.{AllJustified, Justified, JustifiedBelow, Names, Ordered, Standing, asked, at_order, event_at, first_reason, is_away, is_bad_close, is_bad_text, is_bad_topic, may_be_gone, named, named_by, needs_memory, standing_of, standings, underway, unless_gone, why_at, why_close, why_publish, why_send, why_subscribe, why_unsubscribe}
 pub use Rattle.run_meaning.specs.Orders.Justified.{by_gone, by_memory, by_reason}
 pub use Rattle.run_meaning.specs.Performs.{Answers, MayRefuse, Performs, is_link_failure, is_outgoing}
@@ -32,7 +32,7 @@ pub use Rattle.run_meaning.specs.Performs.Answers.{refuses, serves}
 pub use Rattle.run_meaning.specs.Performs.MayRefuse.{for_memory, for_reason}
 pub use Rattle.run_meaning.specs.Quiet.{QuietCount, count_by, count_from, is_leaving, is_tick, is_uncounted, new_count, one_heard, one_tick, quiet}
 pub use Rattle.run_meaning.specs.Replies.{AreAdmitted, AreReplies, HasReplies, is_admitted, is_opened, is_opened_in}
-pub use Rattle.run_meaning.specs.Right.{NoneDue, Right, RightRun, Sound, entries, is_arrival, is_busy, is_entry, is_from_outside, may_follow_gone}
+pub use Rattle.run_meaning.specs.Right.{NoneDue, Right, RightRun, Sound, entries, is_arrival, is_busy, is_entry, may_follow_gone}
 pub use Rattle.run_meaning.specs.Server.{Server as Meaning, Server, every_topic, served_by}
 pub use Rattle.run_meaning.specs.Serving.{Serving}
 pub use Rattle.run_meaning.specs.Settled.{BetweenTurns, Held, IsTurn, LeftAtEnd, Settled, is_ending, is_last_note, is_reading, is_sudden}
@@ -41,3 +41,4 @@ pub use Rattle.run_meaning.specs.Steps.{Step, appended_by, by_note, by_order, fr
 pub use Rattle.run_meaning.specs.Tell.{Tell, at_turn, has_news, is_telling, is_told, marked, nothing_told, one_dropped, tell_by, tell_by_all}
 pub use Rattle.run_meaning.specs.Told.{AreTold, IsToldRight, ToldRight, has_to_tell, held_after, tell, tell_from, tell_noted}
 pub use Rattle.run_meaning.specs.View.{item_list, item_value, item_values, line_value}
+pub use Rattle.run_meaning.specs.Timely.{TicksRight, Timely, ends_stretch, in_stretch, is_by_tick, is_end_due, is_ping_due, is_pinged, is_ticking, one_if, stretch}

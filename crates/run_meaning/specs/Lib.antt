@@ -11,13 +11,14 @@ pub mod Network
 pub mod Life
 pub mod Replies
 pub mod Settled
+pub mod Quiet
+pub mod Timely
 pub mod Right
 pub mod Steps
 pub mod Performs
 pub mod Bridge
 pub mod Tell
 pub mod Told
-pub mod Quiet
 pub mod Echo
 pub mod View
 pub mod All

@@ -78,7 +78,7 @@ none_noted : (t : Option (List NoteValue)) → AreNoted t [] t
 none_noted (Some a) = sym (append-nil a)
 none_noted None = tt {0}
 
-same_offers : (c : ℕ) (n : NetState) (t : Option (List NoteValue)) → OffersNoted Clear c n n t t
+pub same_offers : (c : ℕ) (n : NetState) (t : Option (List NoteValue)) → OffersNoted Clear c n n t t
 same_offers c n t = record {
   notes = [];
   own = refl;

@@ -3,7 +3,7 @@ use Rattle.socket_core.proofs.Below.{◌≡◌, ◌≢◌, ◌<◌, ◌≤◌, �
 use Rattle.ws_kinds.specs.NoteValue as note
 use Rattle.hub_lines.specs.Told.{writes}
 use Rattle.socket_core.proofs.OfferLemmas.{one_noted}
-use Rattle.socket_core.proofs.HandLemmas.{net_same}
+use Rattle.socket_core.proofs.HandLemmas.{net_same, same_offers}
 
 undropped_none : (k : Kept) → is_drop k ≡ false → 0 ≡ drops_in k
 undropped_none Clear e = refl
@@ -39,6 +39,27 @@ passes_left c l k old left on nn t t' few undropped tells hands = record {
   kept = tells;
   failed = hands.failed;
   net = hands.net;
+  numbered = omega arith;
+  conn_is = refl;
+  config = refl;
+  phase = refl;
+  quiet = refl;
+}
+
+-- nothing is held back, and nothing was offered
+pub passes_none : (c l : ℕ) (old : Entry) (n : NetState) (t : Option (List NoteValue)) → old.numbered < 2 ^ 64 → old.ring ≡ [] → PassesOctets c l false [] Clear old old n n t t
+passes_none c l old n t few empty = record {
+  moves = λ ok. record { stands = λ p items s. s; fair = λ p items can s f. f };
+  front = λ failed. absurd (let z : Clear ≡ Failed = failed in cc);
+  others = record { stands = λ d ne held items s. s; fair = λ d ne limit held items f. f };
+  offers = same_offers c n t;
+  short = λ _ was. was;
+  waits = λ was. was;
+  bound = omega arith;
+  limited = λ e. absurd (let z : false ≡ true = e in cc);
+  kept = empty;
+  failed = record { faults = omega arith; broken = λ _. refl };
+  net = net_same c n;
   numbered = omega arith;
   conn_is = refl;
   config = refl;

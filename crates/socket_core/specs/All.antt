@@ -14,6 +14,7 @@ pub use Rattle.socket_core.specs.Items.{HasMemory, HasRoom, IsPuttable, IsSent, 
 pub use Rattle.socket_core.specs.Offers.{Hands, HandsOver, OffersParts}
 pub use Rattle.socket_core.specs.Phases.{can_enter, entered, entered as goes_on}
 pub use Rattle.socket_core.specs.Puts.{BreaksLink, CountsRinged, KeepsNet, LeavesLinkWhole, Offers, OffersNoted, OffersOnce, OffersSome, PassesOctets, TellsFailure, TellsRing, WritesAlone, drops_in, is_drop}
+pub use Rattle.socket_core.specs.Timed.{IsSocket, IsTimed, counts_of, heard_in, heard_socket, leaves_as, or_zero, quiet_of, ticked_in, ticked_socket}
 pub use Rattle.socket_core.specs.contracts.socket.Socket.{the_view}
 pub use Rattle.socket_core.specs.declared.item.Item.{Item as Puttable}
 pub use Rattle.socket_core.specs.declared.item.Item.TheVariants.{Frame, Reply, Spelled}

@@ -1,16 +1,20 @@
 //! A connection's socket.
 
-ghost use Rattle.std.specs.Prelude.{◌≡◌, ◌≢◌, ◌≤◌, ◌+◌, [], ◌∷◌, ◌&&◌, true, false, nat_lt, length, IfOk};
-ghost use Rattle.ws_kinds.specs.declared.note.Phase.TheVariants as phases;
+ghost use Rattle.std.specs.Prelude.{◌≡◌, ◌≢◌, ◌≤◌, ◌+◌, [], ◌∷◌, ◌&&◌, true, false, Some, nat_lt, length, IfOk};
+ghost use Rattle.idle_close.specs.QuietValue.{is_ping, is_gone as is_end};
+ghost use Rattle.run_meaning.specs.Lines.{is_open};
+ghost use Rattle.run_meaning.specs.Timely.{is_ping_due, is_end_due};
 ghost use Rattle.hub_lines.specs.Told.{WritesAreNoted};
-ghost use Rattle.hub_lines.specs.State.{new_entry, most_held};
+ghost use Rattle.hub_lines.specs.State.{new_entry, most_held, is_gone as is_gone_phase};
 ghost use Rattle.socket_core.specs.Items.{octets_of, can_drop, IsPuttable};
 ghost use Rattle.socket_core.specs.Phases.{can_enter, entered};
+ghost use Rattle.socket_core.specs.Timed.{counts_of, heard_socket, ticked_socket};
 ghost use Rattle.socket_core.specs.Puts.{CountsRinged, OffersOnce, PassesOctets, is_drop};
 
 use crate::item::{Item, spell};
 use crate::offering::{hand_over, kept, offer_parts};
 use backlog::Ring;
+use idle_close::{Due, Quiet};
 use link_trait::{Net, Outside};
 use std::alloc::{AllocError, Global};
 use std::marker::Model;
@@ -29,8 +33,8 @@ pub enum Kept {
     Failed,
 }
 
-/// One connection: its phase, the octets that its link did not take, and what is put for it. A contract sees it as an entry of a
-/// hub.
+/// One connection: its phase, for how long it is quiet, the octets that its link did not take, and what is put for it. A contract
+/// sees it as an entry of a hub.
 ///
 /// An item is offered in one write. What the link did not take waits in a ring of fixed size, and while something waits there, items
 /// are put behind it. An item that may be dropped is dropped whole while more waits than the limit.
@@ -39,6 +43,7 @@ pub struct Socket {
     conn: Conn,
     config: Config,
     phase: Phase,
+    quiet: Quiet,
     numbered: u64,
     // The octets of the item that was put last.
     octets: Vec<u8>,
@@ -48,7 +53,7 @@ pub struct Socket {
 impl Model for Socket {
     ghost use Rattle.std.specs.Prelude.{vec_capacity};
     ghost use Rattle.hub_lines.specs.State.{Entry};
-    ghost use Rattle.socket_core.specs.Items.{HasMemory};
+    ghost use Rattle.socket_core.specs.Timed.{IsSocket, quiet_of};
 
     ghost Value = { Entry };
 
@@ -58,10 +63,10 @@ impl Model for Socket {
       phase = socket.phase;
       numbered = socket.numbered;
       ring = socket.ring.octets;
-      quiet = record { ticks = 0; leaving = 0 };
+      quiet = quiet_of socket.quiet;
     } };
 
-    ghost invariant = { λ socket. HasMemory socket.config (vec_capacity socket.octets) socket.ring };
+    ghost invariant = { λ socket. IsSocket socket.config socket.phase (vec_capacity socket.octets) socket.ring socket.quiet };
 }
 
 impl Socket {
@@ -76,6 +81,7 @@ impl Socket {
             conn,
             config: *config,
             phase: Phase::Head,
+            quiet: Quiet::new(config.ping_after(), config.idle(), config.leave()),
             numbered: 0,
             octets: Vec::with_capacity(alloc, longest)?,
             ring: Ring::new(alloc, most)?,
@@ -177,15 +183,51 @@ impl Socket {
     }
 
     /// The connection goes on to a phase, to which a step leads from the one that it is in: from Head to Open or Ending, from
-    /// Open to Leaving or Ending, from Leaving to Ending, and from each to Gone. What is held back for one that is gone is
-    /// discarded.
+    /// Open to Leaving or Ending, from Leaving to Ending, and from each to Gone. In Leaving and Ending the ticks are counted since its
+    /// leaving. What is held back for one that is gone is discarded.
     pub fn enter(&mut self, phase: Phase)
         requires { can_enter self.old.phase phase ≡ true }
         ensures { self.new ≡ entered phase self.old }
     {
         self.phase = phase;
-        if phase == Phase::Gone {
-            self.ring.gone(self.ring.length());
+        match phase {
+            Phase::Leaving => self.quiet.leaving(),
+            Phase::Ending => self.quiet.leaving(),
+            Phase::Gone => self.ring.gone(self.ring.length()),
+            Phase::Head => {}
+            Phase::Open => {}
+        }
+    }
+
+    /// Octets of the connection were read: its quiet ticks are counted from 0 again, unless it is leaving.
+    pub fn heard(&mut self)
+        requires { is_gone_phase self.old.phase ≡ false }
+        ensures { self.new ≡ heard_socket self.old }
+    {
+        self.quiet.heard();
+    }
+
+    /// Counts one more tick of the connection, and says what it makes due: a ping where it is open and its quiet ticks become
+    /// `ping_after`; its end where these become `idle`, or those since its leaving become `leave`.
+    pub fn tick(&mut self) -> Due
+        requires { is_gone_phase self.old.phase ≡ false }
+        ensures ping { is_ping result ≡ is_ping_due self.old.config (Some self.old.phase) (counts_of self.old) }
+        ensures end { is_end result ≡ is_end_due self.old.config (Some self.old.phase) (counts_of self.old) }
+        ensures counts { self.new ≡ ticked_socket self.old }
+    {
+        let can_ping = self.is_open();
+        self.quiet.tick(can_ping)
+    }
+
+    fn is_open(&self) -> bool
+        ensures { result ≡ is_open (Some self.now.phase) }
+    {
+        match self.phase {
+            Phase::Open => true,
+            Phase::Head => false,
+            Phase::Leaving => false,
+            Phase::Ending => false,
+            Phase::Gone => false,
         }
     }
 }

@@ -8,7 +8,7 @@ pub use Rattle.ws_program.proofs.PassLemmas.{front_behind, front_of_more, passes
 pub use Rattle.ws_program.proofs.ReplayLemmas.{can_run, fault_of_all, text_ends, text_of_all}
 pub use Rattle.ws_program.proofs.ReplayedLemmas.{replay_all, replay_ended, replay_failed, replay_given, replay_short, replay_unended}
 pub use Rattle.ws_program.proofs.ReportLemmas.{held_gone, held_none, held_there, links_fail, links_grow, links_more, links_next, text_fails, text_grows, text_next, writes_less, writes_then}
-pub use Rattle.ws_program.proofs.RunLemmas.{between_first, bus_beginning, few_passed, has_run, kept_first, never_failed, never_spent, no_views, table_at_first, there_at_first, views_at_first}
+pub use Rattle.ws_program.proofs.RunLemmas.{between_first, bus_beginning, few_passed, has_run, kept_first, never_failed, never_spent, no_views, there_at_first, views_at_first}
 pub use Rattle.ws_program.proofs.StepLemmas.{close_step, failed_step, message_step, ping_step, puts_event, puts_last}
 pub use Rattle.ws_program.proofs.StopLemmas.{all_answers, is_going, no_stop, passes_few, plain_passed, stop_done, stop_passed}
 pub use Rattle.ws_program.proofs.WordLemmas.{not_both}

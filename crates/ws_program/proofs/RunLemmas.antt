@@ -17,25 +17,6 @@ no_views _ = no_view
 
 -- ---- before the first turn
 
-table_none : (f : ConfigValue) (named : ℕ) → IsTable (record { config = f; named = named; entries = []; partings = [] })
-table_none f named = record {
-  rising = tt;
-  first = λ conn there. clash false refl there;
-  named = λ conn there. clash false refl there;
-  few = omega arith;
-  kept = λ conn. refl;
-  config = λ conn there. clash false refl there;
-  gone = λ conn there. refl;
-  bound = λ conn. omega arith;
-  unused = λ conn none. refl;
-  heads = λ conn there. absurd (let z : Gone ≡ Head = there in cc);
-}
-
-pub table_at_first : (hub : HubState) → hub.entries ≡ [] → hub.partings ≡ [] → IsTable (table_of hub)
-table_at_first hub entries partings =
-    subst (λ es. IsTable (record { config = hub.config; named = hub.named; entries = es; partings = hub.partings })) (sym entries)
-    (subst (λ ps. IsTable (record { config = hub.config; named = hub.named; entries = []; partings = ps })) (sym partings) (table_none hub.config hub.named))
-
 idle_link : (acts : List Act) (numbers : List ℕ) (conn : ℕ) → (link_of numbers (map (λ c. new_link (sent c acts)) numbers) conn).live ≡ false
 idle_link acts [] conn = refl
 idle_link acts (number ∷ numbers) conn = one (nat_eq number conn) (idle_link acts numbers conn)
@@ -53,10 +34,10 @@ pub views_at_first : (intakes : Intakes) → ((conn : ℕ) → intake_at intakes
 views_at_first intakes none conn intake there = absurd (let z : None ≡ Some intake = sym (none conn) ∙ there in cc)
 
 pub kept_first : (f : ConfigValue) (acts : List Act) (table : RouteTable) (hub : HubState) (start : MemNetState) (recorder : RecorderState)
-    → hub.config ≡ f → hub.entries ≡ [] → hub.pairs ≡ [] → hub.partings ≡ [] → hub.tellings ≡ [] → start ≡ start_net acts → recorder ≡ record { notes = []; whole = true }
+    → hub.config ≡ f → hub.entries ≡ [] → hub.pairs ≡ [] → hub.partings ≡ [] → hub.tellings ≡ [] → IsTable (table_of hub) → start ≡ start_net acts → recorder ≡ record { notes = []; whole = true }
     → KeptAll (bus_beginning f table) (server hub (net_state start) (told_by recorder)) tt no_views None
-kept_first f acts table hub start recorder configured entries pairs partings tellings begins empty =
-    kept_at_first (bus_beginning f table) (server hub (net_state start) (told_by recorder)) tt no_views entries pairs partings tellings configured (table_at_first hub entries partings)
+kept_first f acts table hub start recorder configured entries pairs partings tellings whole begins empty =
+    kept_at_first (bus_beginning f table) (server hub (net_state start) (told_by recorder)) tt no_views entries pairs partings tellings configured whole
     (ap told_by empty) (ap (λ (n : MemNetState). (net_state n).passed) begins) refl
 
 pub between_first : (recorder : RecorderState) → recorder ≡ record { notes = []; whole = true } → IsBetweenTurns (told_by recorder)

@@ -2,6 +2,7 @@
 
 mod bus;
 mod echo;
+mod leaving;
 mod replay;
 
 use crate::commands::ws_run;

@@ -21,6 +21,8 @@ pub enum Deed<'a> {
     Publish(&'a [u8], &'a [u8]),
     /// A text to a connection.
     Send(Conn, &'a [u8]),
+    /// To close the connection, with a code and a reason.
+    Close(u16, &'a [u8]),
 }
 
 /// A call for one connection.
@@ -143,6 +145,7 @@ fn order_of(deed: Deed<'_>) -> Order<'_> {
         Deed::Part(topic) => Order::Unsubscribe { topic },
         Deed::Publish(topic, body) => Order::Publish { topic, kind, body },
         Deed::Send(to, body) => Order::Send { to, kind, body },
+        Deed::Close(code, reason) => Order::Close { code, reason },
     }
 }
 

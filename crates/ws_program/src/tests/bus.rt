@@ -44,7 +44,7 @@ fn unquoted(rt: &HostRuntime, text: &str) -> Result<String, Fail> {
 }
 
 /// A row's text with what its upper-case words stand for.
-fn filled(rt: &HostRuntime, text: &str) -> Result<String, Fail> {
+pub(super) fn filled(rt: &HostRuntime, text: &str) -> Result<String, Fail> {
     let words = [
         ("ECHO", head(rt, "/echo")?),
         ("ROOM", head(rt, "/room/m")?),

@@ -24,7 +24,7 @@ returns-in-Taken g c =
     let made : IsNew (max_of c.args.intakes.now) (intake_at c.admit.new.self c.args.conn.0) = search rules in
     accepted c.args.conn c.args.intakes.now c.args.hub.now _ _ (g.H.Handler.state c.args.handler.now) run c.requires.new c.admit.new.self _ change made arrives c.requires.unasked c.requires.named c.accept.ensures.ties c.accept.ensures.appends
     c.accept.ensures.table
-    (λ intake new b before views next few. keep_accepted b c.args.conn c.args.hub.now before _ _ _ views next few run.table c.requires.new c.requires.none _ intake arrives c.accept.ensures.appends c.accept.ensures.table
+    (λ intake new b before views next few. keep_accepted b c.args.conn c.args.hub.now before _ _ _ views next few run.table c.requires.new c.requires.none _ intake arrives c.accept.ensures.appends c.accept.ensures.table (c.accept.ensures.counts c.in-Taken.is)
     (subst (λ (z : ℕ). IsNew z (Some intake)) (sym run.max) new))
 
 pub returns-in-Busy : goal.returns-in-Busy

@@ -1,4 +1,4 @@
-use Rattle.loop_runner.proofs.All.{refl, server, beginning, moment, running_freed, steps_makes, keep_readable, keep_tick, keep_freed, there_next, event_between, event_ended, steps_freed}
+use Rattle.loop_runner.proofs.All.{refl, server, beginning, moment, running_freed, running_ticked, steps_ticks, keep_readable, keep_tick, keep_freed, there_next, event_between, event_ended, steps_freed}
 use Rattle.link_trait.specs.declared.net.NetEvent.TheVariants as event
 use Rattle.loop_runner.specs.declared.turn.Turned.TheVariants as turned
 use Rattle.loop_runner.proofs.turn.take_event.Goals as goal
@@ -23,17 +23,22 @@ returns-in-Readable g c =
     (λ few start config views are k. c.readable.ensures.kept start config views are (keep_readable (beginning g.H.Handler start config c.args.routes.now) c.args.hub.now (g.N.Net.state c.args.out.now.net) _ _ _ views c.in-Readable.conn next k))
     (λ there. c.readable.ensures.steps.there (there_next _ c.args.hub.now _ _ (g.W.Watch.told c.args.out.now.watch) next next.event.live there)) c.close_all-in-Readable.ensures.keeps c.close_all-in-Readable.ensures.none
 
+pub close_all-requires-in-Tick : goal.close_all-requires-in-Tick
+close_all-requires-in-Tick g c =
+    let ticked = c.tick.ensures in
+    record { running = running_ticked _ _ _ _ _ _ c.requires.running c.in-Tick.ensures.event.links (steps_ticks _ _ ticked.ticks ticked.ties ticked.table ticked.named) }
+
 pub returns-in-Tick : goal.returns-in-Tick
 returns-in-Tick g c =
     let next = c.in-Tick.ensures in
     let ticked = c.tick.ensures in
-    let steps = steps_makes _ _ _ ticked.makes ticked.appends ticked.ties ticked.table ticked.named refl in
+    let steps = steps_ticks _ _ ticked.ticks ticked.ties ticked.table ticked.named in
     event_between c.args.routes.now event.Tick (g.N.Net.state c.args.out.now.net) c.args.intakes.now c.args.intakes.now c.close_all-in-Tick.new.intakes
     (record { server = server c.args.hub.now (g.N.Net.state c.next.new.self) (g.W.Watch.told c.args.out.now.watch); now = g.H.Handler.state c.args.handler.now })
     (moment g.N.Net g.W.Watch g.H.Handler c.tick.new.self c.tick.new.out c.args.handler.now)
     (moment g.N.Net g.W.Watch g.H.Handler c.close_all-in-Tick.new.hub c.close_all-in-Tick.new.out c.close_all-in-Tick.new.handler)
     next refl next.event.room steps.onward
-    (λ few start config views are k. (views, are, keep_tick (beginning g.H.Handler start config c.args.routes.now) c.args.hub.now (g.N.Net.state c.args.out.now.net) _ _ _ views _ c.requires.none next few ticked.makes ticked.appends ticked.table k))
+    (λ few start config views are k. (views, are, keep_tick (beginning g.H.Handler start config c.args.routes.now) c.args.hub.now (g.N.Net.state c.args.out.now.net) _ _ _ views _ c.requires.none next few ticked.ticks ticked.table k))
     (λ there. steps.there (there_next _ c.args.hub.now _ _ (g.W.Watch.told c.args.out.now.watch) next next.event.links.live there)) c.close_all-in-Tick.ensures.keeps c.close_all-in-Tick.ensures.none
 
 pub close_all-requires-in-Writable : goal.close_all-requires-in-Writable

@@ -23,7 +23,7 @@ returns c =
     let turns = c.turns_of.result + 1 in
     let few = few_passed f acts hub net watch start c.in_ok-net.ensures c.requires c.is_whole.ensures.follows c.run-ran.ensures.grows.schedule turns c.in-Stopped.field-0 c.in-Stopped.ensures.runs in
     let are = views_at_first c.new-intakes.result c.new-intakes.ensures.none in
-    let kept = kept_first f acts c.in-Ok.routes c.in_ok-hub.hub start c.new-watch.result c.in_ok-hub.ensures.config c.in_ok-hub.ensures.entries c.in_ok-hub.ensures.pairs c.in_ok-hub.ensures.partings c.in_ok-hub.ensures.tellings c.in_ok-net.ensures c.new-watch.ensures in
+    let kept = kept_first f acts c.in-Ok.routes c.in_ok-hub.hub start c.new-watch.result c.in_ok-hub.ensures.config c.in_ok-hub.ensures.entries c.in_ok-hub.ensures.pairs c.in_ok-hub.ensures.partings c.in_ok-hub.ensures.tellings c.in_ok-hub.ensures.table c.in_ok-net.ensures c.new-watch.ensures in
     let there = there_at_first acts c.in_ok-hub.hub start (told_by c.new-watch.result) c.in_ok-net.ensures in
     has_run f acts hub net watch start c.in_ok-net.ensures c.requires c.is_whole.ensures.follows c.run-ran.ensures.grows.schedule turns c.in-Stopped.field-0 c.in-Stopped.ensures.runs
     c.run-ran.ensures.ready.settled (c.is_whole.ensures.watch c.if-not-is_whole.false) (c.is_whole.ensures.net c.if-not-is_whole.false) c.is_whole.ensures.few (c.run-ran.ensures.last (omega arith))

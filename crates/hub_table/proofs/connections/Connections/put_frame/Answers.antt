@@ -38,7 +38,7 @@ became g c =
     (λ h. absurd (c.requires.past_head (sym (phase g c) ∙ h)))
     (subst (λ (z : Phase). length (connection_of c.put.new.self.all c.args.conn.0).socket.ring ≤ most_held_in c.self.inside.config z) (sym passes.phase) held)
     (λ gone. absurd (let here = c.requires.present in let z : true ≡ false = sym gone ∙ ap is_gone (phase g c) ∙ here in cc))
-    (λ none. absurd (let n = passes.numbered in omega arith)) passes.quiet c.put.ensures.all
+    (λ none. absurd (let n = passes.numbered in omega arith)) c.put.ensures.all
 
 pub invariant_of-self : goal.invariant_of-self
 invariant_of-self g c = record { kept = (became g c).kept; room = c.put.ensures.room ∙ c.self.invariant.room }

@@ -15,7 +15,7 @@ became g c =
     (λ h. passes.numbered ∙ (let n = own.head (sym passes.phase ∙ h) in omega arith))
     (subst (λ (z : Phase). length (connection_of c.writable.new.self.all c.args.conn.0).socket.ring ≤ most_held_in c.self.inside.config z) (sym passes.phase) (let a = own.bound in let b = passes.bound in omega arith))
     (λ gone. none (own.gone (ap is_gone (sym passes.phase) ∙ gone)) passes.bound)
-    (λ zero. none (own.unused (let n = passes.numbered in omega arith)) passes.bound) passes.quiet c.writable.ensures.all
+    (λ zero. none (own.unused (let n = passes.numbered in omega arith)) passes.bound) c.writable.ensures.all
 
 -- what the call did, to the entry and by its number
 passed : (g : given.Over) (c : goal.After-writable g) → PassesOctets c.args.conn.0 c.args.self.now.config.limit false [] c.writable.result (entry_of c.args.self.now.entries c.args.conn.0) (entry_of (entries_of c.writable.new.self.all) c.args.conn.0) (g.N.Net.state c.args.out.now.net) (g.N.Net.state c.writable.new.out.net) (g.W.Watch.told c.args.out.now.watch) (g.W.Watch.told c.writable.new.out.watch)

@@ -1,5 +1,11 @@
-use Rattle.socket_core.proofs.All.{rules, refl, ◌≡◌, ◌≢◌, ◌<◌, ◌≤◌, ◌++◌, ◌^◌, ℕ, List, [], length, sym, ap, ◌∙◌, subst, arith, Hands, Clear, Failed, RingValue, drop, hands_for, passes_left, the_view}
+use Rattle.socket_core.proofs.All.{rules, refl, ◌≡◌, ◌≢◌, ◌<◌, ◌≤◌, ◌++◌, ◌^◌, ℕ, List, [], length, sym, ap, ◌∙◌, subst, arith, Hands, Clear, Failed, RingValue, drop, hands_for, nil_from_length, passes_left, passes_none, the_view}
 use Rattle.socket_core.proofs.socket.Socket.writable.Goals as goal
+
+pub returns-then-length-eq0-clause-passes : goal.returns-then-length-eq0-clause-passes
+returns-then-length-eq0-clause-passes g c =
+    let few : c.self.inside.numbered < 2 ^ 64 = search rules in
+    let empty : c.self.inside.ring.octets ≡ [] = nil_from_length c.self.inside.ring.octets (search rules) in
+    rw (← c.self.view_is) (passes_none c.self.inside.conn.0 c.self.inside.config.limit (the_view c.self.inside) (g.N.Net.state c.args.out.now.net) (g.W.Watch.told c.args.out.now.watch) few empty)
 
 pub returns-in-None-clause-passes : goal.returns-in-None-clause-passes
 returns-in-None-clause-passes g c =

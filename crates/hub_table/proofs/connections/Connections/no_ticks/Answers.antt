@@ -1,5 +1,0 @@
-use Rattle.hub_table.proofs.HeldLemmas.{no_tick}
-use Rattle.hub_table.proofs.connections.Connections.no_ticks.Goals as goal
-
-pub returns : goal.returns
-returns c = rw (← c.self.view_is) (no_tick c.self.inside.config c.self.inside.named c.self.inside.table.all c.self.invariant.kept)
