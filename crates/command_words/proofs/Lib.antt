@@ -3,3 +3,4 @@ pub mod Walked
 pub mod Meant
 pub mod Found
 pub mod Order
+pub mod EchoRange

@@ -21,7 +21,7 @@ in_range least most text n e =
     let h = chosen (is_number text && (nat_le least (digits_value 10 text) && nat_le (digits_value 10 text) most)) (digits_value 10 text) n e in
     subst (λ (m : ℕ). (least ≤ m) × (m ≤ most)) h.1 (between least most (digits_value 10 text) (and_right (is_number text) _ h.0))
 
-ranged : (setting : Setting) (text : Option Text) (n : ℕ) → setting.least ≤ setting.usual → setting.usual ≤ setting.most → number_or setting text ≡ Some n
+pub ranged : (setting : Setting) (text : Option Text) (n : ℕ) → setting.least ≤ setting.usual → setting.usual ≤ setting.most → number_or setting text ≡ Some n
     → (setting.least ≤ n) × (n ≤ setting.most)
 ranged setting None n low high e = let same : setting.usual ≡ n = cc in subst (λ (m : ℕ). (setting.least ≤ m) × (m ≤ setting.most)) same (low, high)
 ranged setting (Some text) n low high e = in_range setting.least setting.most text n e

@@ -2,7 +2,6 @@ pub mod PassLemmas
 pub mod StepLemmas
 pub mod EventLemmas
 pub mod EchoLemmas
-pub mod WordLemmas
 pub mod ReportLemmas
 pub mod ReplayLemmas
 pub mod RunLemmas

@@ -1,29 +1,36 @@
--- The words of the command line.
-use Rattle.std.specs.Prelude.{◌≡◌, ◌≢◌, ◌⊎◌, ℕ, List, [], ◌∷◌, Option, Some, None, map, codes, string_bytes}
+-- The words of the command line, by their meaning in `command_words`.
+use Rattle.std.specs.Prelude.{◌≡◌, ⊤, ℕ, Bool, true, false, List, Option, Some, None, map, string_bytes}
 use Rattle.std.specs.Prelude.{String}
-use Rattle.ws_program.specs.declared.words.Command.{Command}
-use Rattle.ws_program.specs.declared.words.Command.TheVariants.{Echo, Replay}
+use Rattle.std.specs.List.{list_all}
+use Rattle.ws_kinds.specs.ConfigValue.{ConfigValue}
+use Rattle.command_words.specs.Meaning.{may_stand, meant}
+use Rattle.command_words.specs.declared.command.Command.{Command}
+use Rattle.command_words.specs.declared.command.Command.TheVariants.{Echo, Replay, Made}
+use Rattle.ws_program.specs.declared.status.Status.{Status}
+use Rattle.ws_program.specs.declared.status.Status.TheVariants.{Usage, OutOfMemory}
 
--- the one word `echo`
-abbrev pub IsEcho : {A : Type 0} → List (String A) → Type 0
-IsEcho words = map string_bytes words ≡ codes "echo" ∷ []
+-- `echo`, with messages of at most so many octets
+abbrev pub IsEcho : {A : Type 0} → ℕ → List (String A) → Type 0
+IsEcho max_message words = meant (map string_bytes words) ≡ Some (Echo max_message)
 
--- the one word `replay`
-abbrev pub IsReplay : {A : Type 0} → List (String A) → Type 0
-IsReplay words = map string_bytes words ≡ codes "replay" ∷ []
+-- `replay`, with these numbers of its server
+abbrev pub IsReplay : {A : Type 0} → ConfigValue → List (String A) → Type 0
+IsReplay config words = meant (map string_bytes words) ≡ Some (Replay config)
 
--- the words name a command
-abbrev pub IsCommand : {A : Type 0} → List (String A) → Type 0
-IsCommand words = IsEcho words ⊎ IsReplay words
+-- the program runs it
+abbrev pub is_run : Option Command → Bool
+is_run None = false
+is_run (Some (Echo max_message)) = true
+is_run (Some (Replay config)) = true
+is_run (Some (Made seed)) = false
 
--- the command that words name, or none
-abbrev pub Names : {A : Type 0} → Option Command → List (String A) → Type 0
-Names (Some Echo) words = IsEcho words
-Names (Some Replay) words = IsReplay words
-Names None words = IsCommand words → ⊥
+-- the words mean no command that the program runs
+abbrev pub IsNoCommand : {A : Type 0} → List (String A) → Type 0
+IsNoCommand words = is_run (meant (map string_bytes words)) ≡ false
 
--- the command that a word names, or none
-abbrev pub Spells : Option Command → List ℕ → Type 0
-Spells (Some Echo) word = word ≡ codes "echo"
-Spells (Some Replay) word = word ≡ codes "replay"
-Spells None word = (word ≢ codes "echo") × (word ≢ codes "replay")
+-- How a run of such words ends. That there was too little memory to read them is told only where each of them may stand in a
+-- command line.
+abbrev pub RefusesWords : {A : Type 0} → List (String A) → Status → Type 0
+RefusesWords words Usage = ⊤
+RefusesWords words OutOfMemory = list_all may_stand (map string_bytes words) ≡ true
+RefusesWords words status = ⊥

@@ -9,7 +9,6 @@ mod replay;
 mod report;
 mod runs;
 mod status;
-mod words;
 
 use commands::ws_run;
 use link_trait::{StdSink, StdSource};

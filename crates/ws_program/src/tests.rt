@@ -4,9 +4,8 @@ mod bus;
 mod echo;
 mod leaving;
 mod replay;
+mod words;
 
-use crate::commands::ws_run;
-use crate::reads::MAX_READ;
 use crate::status::Status;
 use link_trait::{MemSink, MemSource};
 use schedule_text::Fault;
@@ -35,53 +34,6 @@ fn source(rt: &HostRuntime, octets: &[u8], piece: usize, fails: &[u8]) -> Result
 fn sink(rt: &HostRuntime, piece: usize, fails: &[u8]) -> Result<MemSink, Fail> {
     let sink = MemSink::new(rt.alloc(), piece.max(1), bytes(rt, fails)?, MOST_WRITTEN);
     Ok(sink.ok().ok_or("memory")?)
-}
-
-/// Words, the input, and how a run ends. With ample memory the words of a command run it, so a body that gives up for want
-/// of memory each time fails here.
-const RUNS: [(&[&str], &[u8], Status, &[u8]); 11] = [
-    (&["echo"], HELLO, Status::Done, HELLO_ECHO),
-    (
-        &["replay"],
-        b"corked 1\na 1 *\n",
-        Status::Done,
-        b"accept 1\nturn\nlink 1 0 -\n",
-    ),
-    (&[], HELLO, Status::Usage, b""),
-    (&["frob"], HELLO, Status::Usage, b""),
-    (&["echo", "echo"], HELLO, Status::Usage, b""),
-    (&["Echo"], HELLO, Status::Usage, b""),
-    (&["echo "], HELLO, Status::Usage, b""),
-    (&["replay", "x"], b"corked 1\na 1 *\n", Status::Usage, b""),
-    (
-        &["replay", "echo"],
-        b"corked 1\na 1 *\n",
-        Status::Usage,
-        b"",
-    ),
-    (&["Replay"], b"corked 1\na 1 *\n", Status::Usage, b""),
-    (&["replay "], b"corked 1\na 1 *\n", Status::Usage, b""),
-];
-
-/// The words as the program gets them.
-fn owned(rt: &HostRuntime, words: &[&str]) -> Result<Vec<String>, Fail> {
-    let mut owned = Vec::new(rt.alloc());
-    for word in words {
-        owned.push(String::from_str(rt.alloc(), word)?)?;
-    }
-    Ok(owned)
-}
-
-#[test]
-fn words_name_a_command(rt: HostRuntime) -> Result<(), Fail> {
-    for (words, input, wanted, written) in RUNS {
-        let mut source = source(&rt, input, MAX_READ, &[])?;
-        let mut sink = sink(&rt, MAX_READ, &[])?;
-        let status = ws_run(rt.alloc(), &owned(&rt, words)?, &mut source, &mut sink);
-        assert_eq!(rt; status, wanted, "{words:?}");
-        assert_eq!(rt; sink.octets(), written, "{words:?}");
-    }
-    Ok(())
 }
 
 #[test]

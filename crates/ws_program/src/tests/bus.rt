@@ -64,9 +64,13 @@ pub(super) fn filled(rt: &HostRuntime, text: &str) -> Result<String, Fail> {
 }
 
 /// The place of the first row whose report has other lines.
-fn first_other(rt: &HostRuntime, rows: &[(Lines<'_>, &str, &str)]) -> Result<Option<usize>, Fail> {
+pub(super) fn first_other(
+    rt: &HostRuntime,
+    config: Config,
+    rows: &[(Lines<'_>, &str, &str)],
+) -> Result<Option<usize>, Fail> {
     for (place, (lines, acts, report)) in rows.iter().enumerate() {
-        let found = report_of(rt, Config::usual(), *lines, &filled(rt, acts)?)?;
+        let found = report_of(rt, config, *lines, &filled(rt, acts)?)?;
         if found != filled(rt, report)? {
             return Ok(Some(place));
         }
@@ -165,6 +169,6 @@ const ROWS: &[(Lines<'static>, &str, &str)] = &[
 
 #[test]
 fn rooms_and_the_bus(rt: HostRuntime) -> Result<(), Fail> {
-    assert_eq!(rt; first_other(&rt, ROWS)?, None);
+    assert_eq!(rt; first_other(&rt, Config::usual(), ROWS)?, None);
     Ok(())
 }

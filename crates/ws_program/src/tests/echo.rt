@@ -11,7 +11,7 @@ use std::test::*;
 use wire_meaning::plain_echo;
 
 /// Frames of a client, and what an echo answers. The limit is 16,384 octets a message.
-const STREAMS: [(&[u8], &[u8]); 21] = [
+const STREAMS: &[(&[u8], &[u8])] = &[
     (HELLO, HELLO_ECHO),
     (b"", b""),
     // an empty text
@@ -50,7 +50,7 @@ const STREAMS: [(&[u8], &[u8]); 21] = [
 ];
 
 /// The most octets that the source gives at a read.
-const PIECES: [usize; 3] = [1, 997, MAX_READ];
+const PIECES: &[usize] = &[1, 997, MAX_READ];
 
 /// An echo without a fault: how it ends, and its sink. A message has at most `max` octets, and a read gives at most `piece`.
 fn echo(rt: &HostRuntime, max: u32, octets: &[u8], piece: usize) -> Result<(Status, MemSink), Fail>
@@ -63,24 +63,41 @@ fn echo(rt: &HostRuntime, max: u32, octets: &[u8], piece: usize) -> Result<(Stat
     Ok((status, sink))
 }
 
-#[test]
-fn echoes_what_came(rt: HostRuntime) -> Result<(), Fail> {
-    for (octets, answers) in STREAMS {
-        let plain = plain_echo(rt.alloc(), 16384, octets)?;
-        assert_eq!(rt; plain.as_slice(), answers, "{octets:?}");
-        for piece in PIECES {
-            let (status, sink) = echo(&rt, 16384, octets, piece)?;
-            assert_eq!(rt; status, Status::Done);
-            assert_eq!(rt; sink.octets(), answers, "{octets:?} in pieces of {piece}");
+/// Whether an echo without a fault writes these octets, however many a read gives at most.
+fn is_echoed(
+    rt: &HostRuntime,
+    max: u32,
+    octets: &[u8],
+    pieces: &[usize],
+    answers: &[u8],
+) -> Result<bool, Fail>
+    requires least { 1 ≤ max }
+    requires most { max ≤ 65536 }
+{
+    for piece in pieces {
+        let (status, sink) = echo(rt, max, octets, *piece)?;
+        if status != Status::Done || sink.octets() != answers {
+            return Ok(false);
         }
     }
-    Ok(())
+    Ok(true)
+}
+
+/// The place of the first row that is answered otherwise, by an echo or by the plain program.
+fn first_stream(rt: &HostRuntime, rows: &[(&[u8], &[u8])]) -> Result<Option<usize>, Fail> {
+    for (place, (octets, answers)) in rows.iter().enumerate() {
+        let plain = plain_echo(rt.alloc(), 16384, octets)?;
+        if plain.as_slice() != *answers || !is_echoed(rt, 16384, octets, PIECES, answers)? {
+            return Ok(Some(place));
+        }
+    }
+    Ok(None)
 }
 
 /// Messages under the greatest limit, of 125 to 65,536 octets: the header of what comes, how many octets it gives the
 /// message, the most octets of a read, and the header of what is sent back. The last one has an octet too many, and is
 /// refused before any of its payload is there.
-const LONG_MESSAGES: [(&[u8], usize, &[usize], &[u8]); 6] = [
+const LONG_MESSAGES: &[(&[u8], usize, &[usize], &[u8])] = &[
     (b"\x82\xfd\0\0\0\0", 125, &[997, MAX_READ], b"\x82\x7d"),
     (
         b"\x82\xfe\0\x7e\0\0\0\0",
@@ -123,20 +140,18 @@ fn zeros(rt: &HostRuntime, header: &[u8], length: usize) -> Result<Vec<u8>, Fail
     Ok(octets)
 }
 
-#[test]
-fn echoes_long_messages(rt: HostRuntime) -> Result<(), Fail> {
-    for (header, length, pieces, head) in LONG_MESSAGES {
-        for piece in pieces {
-            let (status, sink) = echo(&rt, 65536, &zeros(&rt, header, length)?, *piece)?;
-            assert_eq!(rt; status, Status::Done);
-            assert_eq!(rt;
-                sink.octets(),
-                zeros(&rt, head, length)?.as_slice(),
-                "{length}"
-            );
+/// The place of the first message that is answered otherwise.
+fn first_long(
+    rt: &HostRuntime,
+    rows: &[(&[u8], usize, &[usize], &[u8])],
+) -> Result<Option<usize>, Fail> {
+    for (place, (header, length, pieces, head)) in rows.iter().enumerate() {
+        let octets = zeros(rt, header, *length)?;
+        if !is_echoed(rt, 65536, &octets, pieces, &zeros(rt, head, *length)?)? {
+            return Ok(Some(place));
         }
     }
-    Ok(())
+    Ok(None)
 }
 
 /// Two texts.
@@ -148,7 +163,7 @@ const CLOSED: &[u8] = b"\x88\x80\0\0\0\0\x81\x80\0\0\0\0";
 
 /// The octets, of which a read gives one frame; the calls of the source and of the sink that fail, by a 1 each, where a write
 /// takes 3 octets; how the run ends, what was written, and what the next two reads give.
-const ENDS: [(&[u8], &[u8], &[u8], Status, &[u8], Got, Got); 8] = [
+const ENDS: &[(&[u8], &[u8], &[u8], Status, &[u8], Got, Got)] = &[
     (
         TWICE,
         &[],
@@ -227,16 +242,32 @@ const ENDS: [(&[u8], &[u8], &[u8], Status, &[u8], Got, Got); 8] = [
     ),
 ];
 
-#[test]
-fn ends_at_the_first_fault_or_close(rt: HostRuntime) -> Result<(), Fail> {
-    for (octets, read_fails, write_fails, wanted, written, next, last) in ENDS {
-        let mut source = source(&rt, octets, octets.len() / 2, read_fails)?;
-        let mut sink = sink(&rt, 3, write_fails)?;
+/// The place of the first row with another end.
+fn first_end(
+    rt: &HostRuntime,
+    rows: &[(&[u8], &[u8], &[u8], Status, &[u8], Got, Got)],
+) -> Result<Option<usize>, Fail> {
+    for (place, (octets, read_fails, write_fails, wanted, written, next, last)) in rows
+        .iter()
+        .enumerate()
+    {
+        let mut source = source(rt, octets, octets.len() / 2, read_fails)?;
+        let mut sink = sink(rt, 3, write_fails)?;
         let status = echo_run(rt.alloc(), 16384, &mut source, &mut sink);
-        assert_eq!(rt; status, wanted, "{write_fails:?}");
-        assert_eq!(rt; sink.octets(), written, "{wanted}");
-        assert_eq!(rt; source.read(&mut [0; 16]), next, "{wanted}");
-        assert_eq!(rt; source.read(&mut [0; 16]), last, "{wanted}");
+        if status != *wanted || sink.octets() != *written {
+            return Ok(Some(place));
+        }
+        if source.read(&mut [0; 16]) != *next || source.read(&mut [0; 16]) != *last {
+            return Ok(Some(place));
+        }
     }
+    Ok(None)
+}
+
+#[test]
+fn echoes_what_came_to_the_first_fault_or_close(rt: HostRuntime) -> Result<(), Fail> {
+    assert_eq!(rt; first_stream(&rt, STREAMS)?, None);
+    assert_eq!(rt; first_long(&rt, LONG_MESSAGES)?, None);
+    assert_eq!(rt; first_end(&rt, ENDS)?, None);
     Ok(())
 }

@@ -87,7 +87,7 @@ fn is_compared(lines: Lines<'_>, line: &[u8]) -> bool {
 }
 
 /// The lines of a report that are compared, each with its line feed.
-fn compared(rt: &HostRuntime, lines: Lines<'_>, report: &[u8]) -> Result<String, Fail> {
+pub(super) fn compared(rt: &HostRuntime, lines: Lines<'_>, report: &[u8]) -> Result<String, Fail> {
     let mut kept = Vec::new(rt.alloc());
     for line in report.split(|octet| *octet == b'\n') {
         if is_compared(lines, line) && !line.is_empty() {
@@ -201,7 +201,7 @@ pub(super) fn report_of(
 }
 
 /// The acts of a schedule, and the lines of its report that are compared.
-const REPORTS: [(Lines<'static>, &str, &str); 20] = [
+const REPORTS: &[(Lines<'static>, &str, &str)] = &[
     // without acts there is the one turn that the net's Stop ends
     (Lines::Whole, "", "turn\n"),
     (Lines::Whole, ".\n", "turn\nturn\n"),
@@ -306,25 +306,39 @@ const REPORTS: [(Lines<'static>, &str, &str); 20] = [
     ),
 ];
 
+/// Where one connection may be there, a second one is turned away.
+const BUSY: &[(Lines<'static>, &str, &str)] = &[(
+    Lines::Whole,
+    "a 1 *\na 2 *\n.\n",
+    "accept 1\nbusy 2\nturn\nturn\nlink 1 0 -\n",
+)];
+
+/// The place of the first row whose report has other lines.
+fn first_other(
+    rt: &HostRuntime,
+    config: Config,
+    rows: &[(Lines<'_>, &str, &str)],
+) -> Result<Option<usize>, Fail> {
+    for (place, (lines, acts, report)) in rows.iter().enumerate() {
+        let found = report_of(rt, config, *lines, &filled(rt, acts)?)?;
+        if found != filled(rt, report)? {
+            return Ok(Some(place));
+        }
+    }
+    Ok(None)
+}
+
 #[test]
 fn schedules_have_their_reports(rt: HostRuntime) -> Result<(), Fail> {
-    for (lines, acts, report) in REPORTS {
-        let found = report_of(&rt, Config::usual(), lines, &filled(&rt, acts)?)?;
-        assert_eq!(rt; found.as_str(), filled(&rt, report)?.as_str(), "{acts}");
-    }
-    // one connection may be there, and a second one is turned away
+    assert_eq!(rt; first_other(&rt, Config::usual(), REPORTS)?, None);
     let config = Config::checked(16_384, 65_536, 30, 60, 10, 1).ok_or("a configuration")?;
-    let found = report_of(&rt, config, Lines::Whole, "a 1 *\na 2 *\n.\n")?;
-    assert_eq!(rt;
-        found.as_str(),
-        "accept 1\nbusy 2\nturn\nturn\nlink 1 0 -\n"
-    );
+    assert_eq!(rt; first_other(&rt, config, BUSY)?, None);
     Ok(())
 }
 
 /// With a backlog of at most 10 octets and messages of at most 125: the acts of a schedule with links that take less than they are
 /// offered, or whose writes fail, and the lines of its report that are compared.
-const BACKLOGS: [(Lines<'static>, &str, &str); 10] = [
+const BACKLOGS: &[(Lines<'static>, &str, &str)] = &[
     // what a link did not take is held, and goes out when it takes octets again; then the handler is told
     (
         Lines::All,
@@ -394,21 +408,23 @@ fn stalled_room(rt: &HostRuntime, turns: u64) -> Result<String, Fail> {
     filled(rt, &acts)
 }
 
+/// What is told of drops in so many turns: from the third message on, each is dropped.
+fn drops(rt: &HostRuntime, turns: u64) -> Result<String, Fail> {
+    let mut report = String::new(rt.alloc());
+    for index in 3..=turns {
+        report.push_str(&format!(in rt.alloc(); "dropped 2 {index} 14\ntold 2 1 no\n")?)?;
+    }
+    report.push_str(&filled(rt, "link 1 0 REPLY\nlink 2 14 REPLY\n")?)?;
+    Ok(report)
+}
+
 /// A backlog is held, drained and bounded.
 #[test]
 fn a_backlog_has_a_limit(rt: HostRuntime) -> Result<(), Fail> {
     let config = Config::checked(125, 10, 30, 60, 10, 4).ok_or("a configuration")?;
-    for (lines, acts, report) in BACKLOGS {
-        let found = report_of(&rt, config, lines, &filled(&rt, acts)?)?;
-        assert_eq!(rt; found.as_str(), filled(&rt, report)?.as_str(), "{acts}");
-    }
+    assert_eq!(rt; first_other(&rt, config, BACKLOGS)?, None);
     let found = report_of(&rt, config, Lines::Backlog, &stalled_room(&rt, 200)?)?;
-    let mut wanted = String::new(rt.alloc());
-    for index in 3..=200 {
-        wanted.push_str(&format!(in rt.alloc(); "dropped 2 {index} 14\ntold 2 1 no\n")?)?;
-    }
-    wanted.push_str(&filled(&rt, "link 1 0 REPLY\nlink 2 14 REPLY\n")?)?;
-    assert_eq!(rt; found.as_str(), wanted.as_str());
+    assert_eq!(rt; found.as_str(), drops(&rt, 200)?.as_str());
     Ok(())
 }
 
@@ -465,27 +481,38 @@ fn two_by_octets(rt: &HostRuntime) -> Result<String, Fail> {
     Ok(acts)
 }
 
+/// Whether the two connections are heard as they have to be, cut at these places.
+fn is_heard(rt: &HostRuntime, wanted: &str, first: usize, second: usize) -> Result<bool, Fail> {
+    let heard = heard_of_both(rt, &two_in_pieces(rt, first, second)?)?;
+    Ok(heard.as_str() == wanted)
+}
+
+/// The first place at which one of the two is cut, and they are heard otherwise; the other is cut here.
+fn first_cut(rt: &HostRuntime, wanted: &str, other: usize) -> Result<Option<usize>, Fail> {
+    for place in 1..152 {
+        if !is_heard(rt, wanted, place, other)? || !is_heard(rt, wanted, other, place)? {
+            return Ok(Some(place));
+        }
+    }
+    Ok(None)
+}
+
 /// One of two connections is cut at each place, and the other within its head, behind it, and within its message; and then
 /// both at all places.
 #[test]
 fn two_connections_interleave_at_every_place(rt: HostRuntime) -> Result<(), Fail> {
     let wanted = filled(&rt, HEARD_OF_BOTH)?;
-    for place in 1..152 {
-        for other in [40, 144, 150] {
-            for (first, second) in [(place, other), (other, place)] {
-                let acts = two_in_pieces(&rt, first, second)?;
-                assert_eq!(rt; heard_of_both(&rt, &acts)?.as_str(), wanted.as_str());
-            }
-        }
-    }
-    let acts = two_by_octets(&rt)?;
-    assert_eq!(rt; heard_of_both(&rt, &acts)?.as_str(), wanted.as_str());
+    assert_eq!(rt; first_cut(&rt, &wanted, 40)?, None);
+    assert_eq!(rt; first_cut(&rt, &wanted, 144)?, None);
+    assert_eq!(rt; first_cut(&rt, &wanted, 150)?, None);
+    let heard = heard_of_both(&rt, &two_by_octets(&rt)?)?;
+    assert_eq!(rt; heard.as_str(), wanted.as_str());
     Ok(())
 }
 
 /// The calls of the source and of the sink that fail, by a 1 each, where a write takes 5 octets; how the run of a short
 /// schedule ends, and what was written.
-const FAULTS: [(&[u8], &[u8], Status, &[u8]); 7] = [
+const FAULTS: &[(&[u8], &[u8], Status, &[u8])] = &[
     (
         &[],
         &[],
@@ -507,19 +534,23 @@ const FAULTS: [(&[u8], &[u8], Status, &[u8]); 7] = [
     ),
 ];
 
-#[test]
-fn ends_at_the_first_fault(rt: HostRuntime) -> Result<(), Fail> {
+/// The place of the first row with another end.
+fn first_fault(
+    rt: &HostRuntime,
+    rows: &[(&[u8], &[u8], Status, &[u8])],
+) -> Result<Option<usize>, Fail> {
     let text = b"corked 1\na 1 *\n.\n";
-    for (read_fails, write_fails, wanted, written) in FAULTS {
-        let replay = run(&rt, Config::usual(), text, read_fails, 5, write_fails)?;
-        assert_eq!(rt; replay.status, wanted, "{write_fails:?}");
-        assert_eq!(rt; replay.sink.octets(), written, "{wanted}");
+    for (place, (read_fails, write_fails, status, written)) in rows.iter().enumerate() {
+        let replay = run(rt, Config::usual(), text, read_fails, 5, write_fails)?;
+        if replay.status != *status || replay.sink.octets() != *written {
+            return Ok(Some(place));
+        }
     }
-    Ok(())
+    Ok(None)
 }
 
 /// Texts, and the first of their lines that breaks a rule.
-const REFUSALS: [(&[u8], &str); 8] = [
+const REFUSALS: &[(&[u8], &str)] = &[
     (b"corked 1\na 1 *\nr 1 8\n", "line 3: bad line"),
     (b"", "line 1: bad header"),
     (b"corked 2\n", "line 1: bad header"),
@@ -530,18 +561,22 @@ const REFUSALS: [(&[u8], &str); 8] = [
     (HELLO, "line 1: bad header"),
 ];
 
-/// Nothing is written then.
-#[test]
-fn ends_at_the_first_bad_line(rt: HostRuntime) -> Result<(), Fail> {
-    for (text, wanted) in REFUSALS {
-        let replay = run(&rt, Config::usual(), text, &[], MAX_READ, &[])?;
-        assert_eq!(rt;
-            format!(in rt.alloc(); "{}", replay.status)?.as_str(),
-            wanted
-        );
-        assert_eq!(rt; replay.status.exit_code(), 3);
-        assert!(rt; replay.sink.octets().is_empty());
+/// The place of the first text that is refused otherwise, or of which something is written.
+fn first_taken(rt: &HostRuntime, rows: &[(&[u8], &str)]) -> Result<Option<usize>, Fail> {
+    for (place, (text, wanted)) in rows.iter().enumerate() {
+        let replay = run(rt, Config::usual(), text, &[], MAX_READ, &[])?;
+        let told = format!(in rt.alloc(); "{}", replay.status)?;
+        if told.as_str() != *wanted || !replay.sink.octets().is_empty() {
+            return Ok(Some(place));
+        }
     }
+    Ok(None)
+}
+
+#[test]
+fn ends_at_the_first_fault_or_bad_line(rt: HostRuntime) -> Result<(), Fail> {
+    assert_eq!(rt; first_fault(&rt, FAULTS)?, None);
+    assert_eq!(rt; first_taken(&rt, REFUSALS)?, None);
     Ok(())
 }
 
@@ -560,7 +595,7 @@ fn longest_text(rt: &HostRuntime) -> Result<Vec<u8>, Fail> {
 
 /// What stands behind such a text, how the run ends, how its report begins, and what the next read gives: of a text that is too
 /// long, one octet more than a text may have is read.
-const BEHIND: [(&[u8], &str, &[u8], Got); 3] = [
+const BEHIND: &[(&[u8], &str, &[u8], Got)] = &[
     (
         b"",
         "done",
@@ -571,19 +606,31 @@ const BEHIND: [(&[u8], &str, &[u8], Got); 3] = [
     (b".\n.\n", "line 0: too long", b"", Got::Octets(3)),
 ];
 
+/// The place of the first row with another end.
+fn first_behind(
+    rt: &HostRuntime,
+    rows: &[(&[u8], &str, &[u8], Got)],
+) -> Result<Option<usize>, Fail> {
+    let longest = longest_text(rt)?;
+    for (place, (behind, wanted, begins, next)) in rows.iter().enumerate() {
+        let text = [longest.as_slice(), *behind].concat(rt.alloc())?;
+        let mut replay = run(rt, Config::usual(), &text, &[], MAX_READ, &[])?;
+        let told = format!(in rt.alloc(); "{}", replay.status)?;
+        let report = replay.sink.octets();
+        let is_so = report.starts_with(begins) && report.is_empty() == begins.is_empty();
+        if !is_so || told.as_str() != *wanted {
+            return Ok(Some(place));
+        }
+        if replay.source.read(&mut [0; 8]) != *next || replay.source.read(&mut [0; 8]) != Got::End {
+            return Ok(Some(place));
+        }
+    }
+    Ok(None)
+}
+
 #[test]
 fn a_text_of_1048576_octets_is_read_and_no_longer_one(rt: HostRuntime) -> Result<(), Fail> {
-    for (behind, wanted, begins, next) in BEHIND {
-        let mut text = longest_text(&rt)?;
-        assert_eq!(rt; text.len(), MOST_OCTETS);
-        text.extend_from_slice(behind)?;
-        let mut replay = run(&rt, Config::usual(), &text, &[], MAX_READ, &[])?;
-        let status = format!(in rt.alloc(); "{}", replay.status)?;
-        assert_eq!(rt; status.as_str(), wanted);
-        assert!(rt; replay.sink.octets().starts_with(begins));
-        assert_eq!(rt; replay.sink.octets().is_empty(), begins.is_empty());
-        assert_eq!(rt; replay.source.read(&mut [0; 8]), next);
-        assert_eq!(rt; replay.source.read(&mut [0; 8]), Got::End);
-    }
+    assert_eq!(rt; longest_text(&rt)?.len(), MOST_OCTETS);
+    assert_eq!(rt; first_behind(&rt, BEHIND)?, None);
     Ok(())
 }
