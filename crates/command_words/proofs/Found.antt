@@ -1,8 +1,9 @@
 -- What clap makes of whole command lines, and that it is what they mean.
-use Rattle.std.proofs.Common.{◌≡◌, ◌∙◌, ◌&&◌, ℕ, Bool, cond, codes, true, false, not, zero, suc, refl, sym, ap, ap₂, subst, List, [], ◌∷◌, ◌++◌, map, Option, Some, None, is_some, true≢false, fold, rules, option_map, bytes_eq, nat_lt}
+use Rattle.std.proofs.Common.{◌≡◌, ◌∙◌, ◌&&◌, ℕ, Bool, cond, codes, true, false, not, zero, suc, refl, sym, ap, ap₂, subst, List, [], ◌∷◌, ◌++◌, map, Option, Some, None, is_some, true≢false, fold, rules, option_map, bytes_eq}
 use Rattle.std.specs.Prelude.{unwrap_or}
 use Rattle.std.specs.List.{list_all}
 use Rattle.std.proofs.lemmas.List.{append-nil, append_assoc}
+use Rattle.std.proofs.lemmas.List.Folds.{list_all-append}
 use Rattle.std.proofs.lemmas.Slice.Eq.{bytes_eq-Decides}
 use Rattle.ws_kinds.proofs.Facts.{and_true, clash}
 use Rattle.clap.specs.Lexer.{long_of}
@@ -13,12 +14,13 @@ use Rattle.clap.specs.Faults.{check_fault, defaults_fault, entered_fault, fault_
 use Rattle.clap.specs.declared.error.kind.ErrorKind.{ErrorKind}
 use Rattle.clap.proofs.FaultLemmas.{stopped_fault}
 use Rattle.clap.proofs.WalkLemmas.{both}
-use Rattle.ws_kinds.specs.ConfigValue.{ConfigValue, config_of}
+use Rattle.ws_kinds.specs.ConfigValue.{ConfigValue}
+use Rattle.command_words.specs.declared.command.Command.{Command}
 use Rattle.command_words.specs.declared.command.Command.TheVariants as command
-use Rattle.command_words.specs.Meaning.{Text, Given, ◌>>=◌, echo_meant, echo_of, echo_options, has_option, made_meant, may_stand, max_message_option, limit_option, ping_after_option, idle_option, leave_option, max_conns_option, meant, number, number_in, options_among, replay_meant, replay_of, replay_options, value_of}
+use Rattle.command_words.specs.Meaning.{Text, Given, Setting, ◌>>=◌, config_of_values, echo_meant, echo_of, echo_options, has_option, made_meant, may_stand, max_message_option, limit_option, ping_after_option, idle_option, leave_option, max_conns_option, meant, number, number_in, options_among, port_option, replay_meant, replay_of, replay_options, serve_meant, serve_of, serve_options, turns_option, value_of}
 use Rattle.command_words.specs.Grammar.{bare_command, command_of, commands}
 use Rattle.command_words.proofs.Walked.{IsCommand, are_options, command_faults, command_rows, first_given, given_in, no_fault, nonempty_first, or_else-none, row, starts_with_hyphen, unusual_false, unusual_word, usual_dashes, usual_long, usual_plain}
-use Rattle.command_words.proofs.Meant.{among_taken, are_numbers, no_hyphen, taken_among}
+use Rattle.command_words.proofs.Meant.{among_taken, are_numbers, bind_some, both_true, may_be, no_hyphen, numbered, taken_among}
 
 -- ---- the commands, as clap builds them
 
@@ -39,8 +41,11 @@ echo_leaf = sub_at 0 (built commands).subs
 abbrev replay_leaf : Shape
 replay_leaf = sub_at 1 (built commands).subs
 
+abbrev serve_leaf : Shape
+serve_leaf = sub_at 2 (built commands).subs
+
 abbrev made_leaf : Shape
-made_leaf = sub_at 2 (built commands).subs
+made_leaf = sub_at 3 (built commands).subs
 
 pub are_simple_and_free : is_simple_and_free commands ≡ true
 are_simple_and_free = refl
@@ -53,6 +58,9 @@ echo_is = record { rules = refl; once = refl; checks = λ rows. refl }
 
 replay_is : IsCommand replay_options replay_leaf
 replay_is = record { rules = refl; once = refl; checks = λ rows. refl }
+
+serve_is : IsCommand serve_options serve_leaf
+serve_is = record { rules = refl; once = refl; checks = λ rows. refl }
 
 -- ---- the seed
 
@@ -135,12 +143,12 @@ sub_faults name rest first passes has =
     ∙ or_else-none _
 
 unknown_command : (word : Text) (rest : List Text) → may_stand word ≡ true → bytes_eq (codes "echo") word ≡ false → bytes_eq (codes "replay") word ≡ false
-    → bytes_eq (codes "made") word ≡ false → no_fault (turn_fault top names (walk_from nothing_held) word) ≡ false
-unknown_command word rest usual e f g = go (long_of word) refl
+    → bytes_eq (codes "serve") word ≡ false → bytes_eq (codes "made") word ≡ false → no_fault (turn_fault top names (walk_from nothing_held) word) ≡ false
+unknown_command word rest usual e f s g = go (long_of word) refl
   where
     go : (l : Option (Text × Option Text)) → long_of word ≡ l → no_fault (turn_fault top names (walk_from nothing_held) word) ≡ false
-    go (Some p) long = rw (e, f, g, usual_dashes word usual, long) refl
-    go None none = rw (e, f, g, usual_dashes word usual, none, (usual_plain word usual none).1) refl
+    go (Some p) long = rw (e, f, s, g, usual_dashes word usual, long) refl
+    go None none = rw (e, f, s, g, usual_dashes word usual, none, (usual_plain word usual none).1) refl
 
 echo_first : (rest : List Text) → list_all may_stand rest ≡ true → no_fault (fault_of commands (codes "echo" ∷ rest)) ≡ are_options (has_option echo_options) None [] rest
 unfolding walked
@@ -150,39 +158,49 @@ replay_first : (rest : List Text) → list_all may_stand rest ≡ true → no_fa
 unfolding walked
 replay_first rest usual = ap no_fault (sub_faults (codes "replay") rest refl refl refl) ∙ command_faults replay_options replay_leaf replay_is rest usual
 
+serve_first : (rest : List Text) → list_all may_stand rest ≡ true → no_fault (fault_of commands (codes "serve" ∷ rest)) ≡ are_options (has_option serve_options) None [] rest
+unfolding walked
+serve_first rest usual = ap no_fault (sub_faults (codes "serve") rest refl refl refl) ∙ command_faults serve_options serve_leaf serve_is rest usual
+
 made_first : (rest : List Text) → list_all may_stand rest ≡ true → no_fault (fault_of commands (codes "made" ∷ rest)) ≡ is_seed rest
 unfolding walked
 made_first rest usual = ap no_fault (sub_faults (codes "made") rest refl refl refl) ∙ made_faults rest usual
 
 -- ---- which words clap takes
 
-abbrev if_command : Text → Bool → Bool → Bool → Bool
-if_command word echo replay made =
-    cond (bytes_eq (codes "echo") word) echo (cond (bytes_eq (codes "replay") word) replay (cond (bytes_eq (codes "made") word) made false))
+abbrev if_command : Text → Bool → Bool → Bool → Bool → Bool
+if_command word echo replay serve made =
+    cond (bytes_eq (codes "echo") word) echo
+    (cond (bytes_eq (codes "replay") word) replay (cond (bytes_eq (codes "serve") word) serve (cond (bytes_eq (codes "made") word) made false)))
 
 abbrev pub are_taken : List Text → Bool
 are_taken [] = false
-are_taken (word ∷ rest) = if_command word (are_options (has_option echo_options) None [] rest) (are_options (has_option replay_options) None [] rest) (is_seed rest)
+are_taken (word ∷ rest) = if_command word (are_options (has_option echo_options) None [] rest) (are_options (has_option replay_options) None [] rest)
+    (are_options (has_option serve_options) None [] rest) (is_seed rest)
 
 -- which command a word is
 data Which (word : Text) : Type 0 where
   echo : codes "echo" ≡ word → Which word
   replay : codes "replay" ≡ word → Which word
+  serve : codes "serve" ≡ word → Which word
   made : codes "made" ≡ word → Which word
-  unknown : bytes_eq (codes "echo") word ≡ false → bytes_eq (codes "replay") word ≡ false → bytes_eq (codes "made") word ≡ false → Which word
+  unknown : bytes_eq (codes "echo") word ≡ false → bytes_eq (codes "replay") word ≡ false → bytes_eq (codes "serve") word ≡ false
+      → bytes_eq (codes "made") word ≡ false → Which word
 
 which : (word : Text) → Which word
-which word = go (bytes_eq (codes "echo") word) (bytes_eq (codes "replay") word) (bytes_eq (codes "made") word) refl refl refl
+which word = go (bytes_eq (codes "echo") word) (bytes_eq (codes "replay") word) (bytes_eq (codes "serve") word) (bytes_eq (codes "made") word) refl refl refl refl
   where
-    go : (a b d : Bool) → bytes_eq (codes "echo") word ≡ a → bytes_eq (codes "replay") word ≡ b → bytes_eq (codes "made") word ≡ d → Which word
-    go true b d e f g = echo (search (rules, bytes_eq-Decides (codes "echo") word))
-    go false true d e f g = replay (search (rules, bytes_eq-Decides (codes "replay") word))
-    go false false true e f g = made (search (rules, bytes_eq-Decides (codes "made") word))
-    go false false false e f g = unknown e f g
+    go : (a b c d : Bool) → bytes_eq (codes "echo") word ≡ a → bytes_eq (codes "replay") word ≡ b → bytes_eq (codes "serve") word ≡ c
+        → bytes_eq (codes "made") word ≡ d → Which word
+    go true b c d e f s g = echo (search (rules, bytes_eq-Decides (codes "echo") word))
+    go false true c d e f s g = replay (search (rules, bytes_eq-Decides (codes "replay") word))
+    go false false true d e f s g = serve (search (rules, bytes_eq-Decides (codes "serve") word))
+    go false false false true e f s g = made (search (rules, bytes_eq-Decides (codes "made") word))
+    go false false false false e f s g = unknown e f s g
 
-none_taken : (word : Text) (a b d : Bool) → bytes_eq (codes "echo") word ≡ false → bytes_eq (codes "replay") word ≡ false → bytes_eq (codes "made") word ≡ false
-    → if_command word a b d ≡ false
-none_taken word a b d e f g = rw (e, f, g) refl
+none_taken : (word : Text) (a b c d : Bool) → bytes_eq (codes "echo") word ≡ false → bytes_eq (codes "replay") word ≡ false
+    → bytes_eq (codes "serve") word ≡ false → bytes_eq (codes "made") word ≡ false → if_command word a b c d ≡ false
+none_taken word a b c d e f s g = rw (e, f, s, g) refl
 
 taken_exactly : (words : List Text) → list_all may_stand words ≡ true → no_fault (fault_of commands words) ≡ are_taken words
 unfolding walk_fault defaults_fault
@@ -192,8 +210,9 @@ taken_exactly (word ∷ rest) usual = go (which word)
     go : Which word → no_fault (fault_of commands (word ∷ rest)) ≡ are_taken (word ∷ rest)
     go (echo same) = subst (λ w. no_fault (fault_of commands (w ∷ rest)) ≡ are_taken (w ∷ rest)) same (echo_first rest (both _ _ usual).1)
     go (replay same) = subst (λ w. no_fault (fault_of commands (w ∷ rest)) ≡ are_taken (w ∷ rest)) same (replay_first rest (both _ _ usual).1)
+    go (serve same) = subst (λ w. no_fault (fault_of commands (w ∷ rest)) ≡ are_taken (w ∷ rest)) same (serve_first rest (both _ _ usual).1)
     go (made same) = subst (λ w. no_fault (fault_of commands (w ∷ rest)) ≡ are_taken (w ∷ rest)) same (made_first rest (both _ _ usual).1)
-    go (unknown e f g) = nonempty_first _ _ (nonempty_first _ _ (unknown_command word rest (both _ _ usual).0 e f g)) ∙ sym (none_taken word _ _ _ e f g)
+    go (unknown e f s g) = nonempty_first _ _ (nonempty_first _ _ (unknown_command word rest (both _ _ usual).0 e f s g)) ∙ sym (none_taken word _ _ _ _ e f s g)
 
 -- ---- what words mean that clap does not take
 
@@ -213,8 +232,9 @@ unusual_taken (word ∷ rest) h = go (which word)
     go : Which word → are_taken (word ∷ rest) ≡ false
     go (echo same) = subst (λ w. are_taken (w ∷ rest) ≡ false) same (unusual_false (has_option echo_options) rest (rest_unusual (codes "echo") word rest same refl h) None [])
     go (replay same) = subst (λ w. are_taken (w ∷ rest) ≡ false) same (unusual_false (has_option replay_options) rest (rest_unusual (codes "replay") word rest same refl h) None [])
+    go (serve same) = subst (λ w. are_taken (w ∷ rest) ≡ false) same (unusual_false (has_option serve_options) rest (rest_unusual (codes "serve") word rest same refl h) None [])
     go (made same) = subst (λ w. are_taken (w ∷ rest) ≡ false) same (seed_unusual rest (rest_unusual (codes "made") word rest same refl h))
-    go (unknown e f g) = none_taken word _ _ _ e f g
+    go (unknown e f s g) = none_taken word _ _ _ _ e f s g
 
 -- ---- what the words mean that clap does not take
 
@@ -225,29 +245,43 @@ by_none (Some x) f h = h x refl
 echo_none : (rest : List Text) → are_options (has_option echo_options) None [] rest ≡ false → echo_meant rest ≡ None
 echo_none rest fails = by_none (options_among echo_options rest) (λ given. echo_of (value_of given))
     (λ given among. by_none (number max_message_option (value_of given)) (λ n. Some (command.Echo n))
-    (λ n is. absurd (clash _ fails (among_taken echo_options rest given among (ap (λ o. is_some o && true) is)))))
+    (λ n is. absurd (clash _ fails (among_taken echo_options rest given among (both_true _ _ (numbered max_message_option (value_of given (codes "max-message")) n is) refl)))))
 
-abbrev config_from : (a b c d e f : Option ℕ) → Option ConfigValue
-config_from a b c d e f = a >>= λ a. b >>= λ b. c >>= λ c. d >>= λ d. e >>= λ e. f >>= λ f. cond (nat_lt c d) (Some (config_of a b c d e f)) None
-
-config_none : (a b c d e f : Option ℕ) → (is_some a && (is_some b && (is_some c && (is_some d && (is_some e && (is_some f && true)))))) ≡ false
-    → config_from a b c d e f ≡ None
-config_none None b c d e f h = refl
-config_none (Some a) None c d e f h = refl
-config_none (Some a) (Some b) None d e f h = refl
-config_none (Some a) (Some b) (Some c) None e f h = refl
-config_none (Some a) (Some b) (Some c) (Some d) None f h = refl
-config_none (Some a) (Some b) (Some c) (Some d) (Some e) None h = refl
-config_none (Some a) (Some b) (Some c) (Some d) (Some e) (Some f) h = absurd (true≢false h)
+config_numbers : (given : List Given) (config : ConfigValue) → config_of_values (value_of given) ≡ Some config → are_numbers replay_options given ≡ true
+config_numbers given config e =
+    let (max_message, a, after_a) = bind_some (number max_message_option (value_of given)) _ _ e in
+    let (limit, b, after_b) = bind_some (number limit_option (value_of given)) _ _ after_a in
+    let (ping_after, c, after_c) = bind_some (number ping_after_option (value_of given)) _ _ after_b in
+    let (end, d, after_d) = bind_some (number idle_option (value_of given)) _ _ after_c in
+    let (leave, f, after_f) = bind_some (number leave_option (value_of given)) _ _ after_d in
+    let (max_conns, g, after_g) = bind_some (number max_conns_option (value_of given)) _ _ after_f in
+    both_true _ _ (numbered max_message_option (value_of given (codes "max-message")) max_message a) (both_true _ _ (numbered limit_option (value_of given (codes "limit")) limit b)
+    (both_true _ _ (numbered ping_after_option (value_of given (codes "ping-after")) ping_after c) (both_true _ _ (numbered idle_option (value_of given (codes "idle")) end d)
+    (both_true _ _ (numbered leave_option (value_of given (codes "leave")) leave f) (both_true _ _ (numbered max_conns_option (value_of given (codes "max-conns")) max_conns g) refl)))))
 
 replay_none : (rest : List Text) → are_options (has_option replay_options) None [] rest ≡ false → replay_meant rest ≡ None
-replay_none rest fails = by_none (options_among replay_options rest) (λ given. replay_of (value_of given)) (λ given among. go given among (are_numbers replay_options given) refl)
-  where
-    go : (given : List Given) → options_among replay_options rest ≡ Some given → (b : Bool) → are_numbers replay_options given ≡ b → replay_of (value_of given) ≡ None
-    go given among true numbers = absurd (clash _ fails (among_taken replay_options rest given among numbers))
-    go given among false numbers = ap (λ (o : Option ConfigValue). o >>= λ config. Some (command.Replay config))
-        (config_none (number max_message_option (value_of given)) (number limit_option (value_of given)) (number ping_after_option (value_of given))
-        (number idle_option (value_of given)) (number leave_option (value_of given)) (number max_conns_option (value_of given)) numbers)
+replay_none rest fails = by_none (options_among replay_options rest) (λ given. replay_of (value_of given))
+    (λ given among. by_none (config_of_values (value_of given)) (λ config. Some (command.Replay config))
+    (λ config is. absurd (clash _ fails (among_taken replay_options rest given among (config_numbers given config is)))))
+
+abbrev with_turns : ConfigValue → ℕ → Option ℕ → Option Command
+with_turns config port turns = turns >>= λ turns. Some (command.Serve config port turns)
+
+abbrev with_port : ConfigValue → Option ℕ → Option ℕ → Option Command
+with_port config port turns = port >>= λ port. with_turns config port turns
+
+serve_numbers : (given : List Given) (config : ConfigValue) (port turns : ℕ) → config_of_values (value_of given) ≡ Some config
+    → number port_option (value_of given) ≡ Some port → number turns_option (value_of given) ≡ Some turns → are_numbers serve_options given ≡ true
+serve_numbers given config port turns is at ends =
+    list_all-append (λ (setting : Setting). may_be setting (value_of given setting.name)) replay_options (port_option ∷ turns_option ∷ [])
+    ∙ both_true _ _ (config_numbers given config is) (both_true _ _ (numbered port_option (value_of given (codes "port")) port at) (both_true _ _ (numbered turns_option (value_of given (codes "turns")) turns ends) refl))
+
+serve_none : (rest : List Text) → are_options (has_option serve_options) None [] rest ≡ false → serve_meant rest ≡ None
+serve_none rest fails = by_none (options_among serve_options rest) (λ given. serve_of (value_of given))
+    (λ given among. by_none (config_of_values (value_of given)) (λ config. with_port config (number port_option (value_of given)) (number turns_option (value_of given)))
+    (λ config is. by_none (number port_option (value_of given)) (λ port. with_turns config port (number turns_option (value_of given)))
+    (λ port at. by_none (number turns_option (value_of given)) (λ turns. Some (command.Serve config port turns))
+    (λ turns ends. absurd (clash _ fails (among_taken serve_options rest given among (serve_numbers given config port turns is at ends)))))))
 
 made_none : (rest : List Text) → is_seed rest ≡ false → made_meant rest ≡ None
 made_none [] fails = refl
@@ -262,8 +296,9 @@ refused (word ∷ rest) h = go (which word)
     go : Which word → meant (word ∷ rest) ≡ None
     go (echo same) = subst (λ w. meant (w ∷ rest) ≡ None) same (echo_none rest (ap (λ w. are_taken (w ∷ rest)) same ∙ h))
     go (replay same) = subst (λ w. meant (w ∷ rest) ≡ None) same (replay_none rest (ap (λ w. are_taken (w ∷ rest)) same ∙ h))
+    go (serve same) = subst (λ w. meant (w ∷ rest) ≡ None) same (serve_none rest (ap (λ w. are_taken (w ∷ rest)) same ∙ h))
     go (made same) = subst (λ w. meant (w ∷ rest) ≡ None) same (made_none rest (ap (λ w. are_taken (w ∷ rest)) same ∙ h))
-    go (unknown e f g) = rw (e, f, g) refl
+    go (unknown e f s g) = rw (e, f, s, g) refl
 
 -- ---- what clap finds in the words that it takes
 
@@ -277,6 +312,10 @@ echo_stop rest = sub_stop (codes "echo") rest refl
 replay_stop : (rest : List Text) → stop_after top.rules names (codes "replay" ∷ rest) ≡ Some (codes "replay", rest)
 unfolding walked
 replay_stop rest = sub_stop (codes "replay") rest refl
+
+serve_stop : (rest : List Text) → stop_after top.rules names (codes "serve" ∷ rest) ≡ Some (codes "serve", rest)
+unfolding walked
+serve_stop rest = sub_stop (codes "serve") rest refl
 
 made_stop : (rest : List Text) → stop_after top.rules names (codes "made" ∷ rest) ≡ Some (codes "made", rest)
 unfolding walked
@@ -305,6 +344,14 @@ replay_found rest usual right = (
   ap replay_of (given_rows (given_in None [] rest)) ∙ sym (ap (λ o. o >>= λ given. replay_of (value_of given)) (taken_among replay_options rest right)),
 )
 
+serve_found : (rest : List Text) → list_all may_stand rest ≡ true → are_options (has_option serve_options) None [] rest ≡ true → IsFound (codes "serve" ∷ rest)
+serve_found rest usual right = (
+  codes "serve",
+  map row (given_in None [] rest),
+  ap (entered (built commands)) (serve_stop rest) ∙ ap (λ rows. Some (codes "serve", rows)) (command_rows serve_options serve_leaf serve_is rest usual right),
+  ap serve_of (given_rows (given_in None [] rest)) ∙ sym (ap (λ o. o >>= λ given. serve_of (value_of given)) (taken_among serve_options rest right)),
+)
+
 made_found : (rest : List Text) → list_all may_stand rest ≡ true → is_seed rest ≡ true → IsFound (codes "made" ∷ rest)
 made_found rest usual right =
     let (seed, is, rows) = made_rows rest usual right in (
@@ -321,8 +368,9 @@ found (word ∷ rest) usual h = go (which word)
     go : Which word → IsFound (word ∷ rest)
     go (echo same) = subst (λ w. IsFound (w ∷ rest)) same (echo_found rest (both _ _ usual).1 (ap (λ w. are_taken (w ∷ rest)) same ∙ h))
     go (replay same) = subst (λ w. IsFound (w ∷ rest)) same (replay_found rest (both _ _ usual).1 (ap (λ w. are_taken (w ∷ rest)) same ∙ h))
+    go (serve same) = subst (λ w. IsFound (w ∷ rest)) same (serve_found rest (both _ _ usual).1 (ap (λ w. are_taken (w ∷ rest)) same ∙ h))
     go (made same) = subst (λ w. IsFound (w ∷ rest)) same (made_found rest (both _ _ usual).1 (ap (λ w. are_taken (w ∷ rest)) same ∙ h))
-    go (unknown e f g) = absurd (clash _ (none_taken word _ _ _ e f g) h)
+    go (unknown e f s g) = absurd (clash _ (none_taken word _ _ _ _ e f s g) h)
 
 -- ---- for the caller
 

@@ -4,3 +4,4 @@ pub mod Meant
 pub mod Found
 pub mod Order
 pub mod EchoRange
+pub mod ServeRange

@@ -1,5 +1,5 @@
 -- What words mean, by which options they are.
-use Rattle.std.proofs.Common.{◌≡◌, ◌∙◌, ◌+◌, ◌&&◌, ◌||◌, ◌==◌, ℕ, Bool, cond, true, false, not, refl, sym, ap, ap₂, subst, List, [], ◌∷◌, ◌++◌, Option, Some, None, is_some, true≢false, rules, bytes_eq}
+use Rattle.std.proofs.Common.{◌≡◌, ◌∙◌, ◌&&◌, ◌||◌, ◌==◌, ℕ, Bool, cond, true, false, not, refl, sym, ap, ap₂, subst, List, [], ◌∷◌, ◌++◌, Option, Some, None, is_some, true≢false, rules, bytes_eq}
 use Rattle.std.specs.List.{list_all}
 use Rattle.std.proofs.lemmas.List.{append-nil, append_assoc}
 use Rattle.clap.proofs.SimpleLemmas.{is_false}
@@ -7,7 +7,7 @@ use Rattle.std.proofs.lemmas.List.Folds.{list_any-append}
 use Rattle.std.proofs.lemmas.Slice.Eq.{bytes_eq-Decides}
 use Rattle.ws_kinds.proofs.Facts.{and_left, and_right, clash, equal_is, or_false}
 use Rattle.clap.specs.Lexer.{long_of}
-use Rattle.command_words.specs.Meaning.{Text, Given, Setting, ◌>>=◌, option_word, given_then, options_from, options_among, has_option, is_given, are_once, value_of, number, number_or, number_in}
+use Rattle.command_words.specs.Meaning.{Text, Given, Setting, ◌>>=◌, option_word, given_then, options_from, options_among, has_option, is_given, are_once, value_of, number_or, number_in}
 use Rattle.command_words.proofs.Walked.{starts_with_hyphen, named, begun, are_options, met, given_in}
 
 -- ---- options
@@ -16,7 +16,7 @@ pub bind_some : {A B : Type 0} (o : Option A) (f : A → Option B) (y : B) → (
 bind_some (Some x) f y e = (x, refl, e)
 bind_some None f y e = absurd cc
 
-both_true : (a b : Bool) → a ≡ true → b ≡ true → (a && b) ≡ true
+pub both_true : (a b : Bool) → a ≡ true → b ≡ true → (a && b) ≡ true
 both_true a b e f = rw (e, f) refl
 
 -- a word is read as clap reads it
@@ -239,9 +239,18 @@ no_hyphen (first ∷ rest) least most h = go (first == 45) refl
     go false e = refl
     go true e = absurd (clash _ (no_digit first rest least most e) h)
 
--- the value of each option is a number in its range
+-- the option is not given, or its value is a number in its range
+abbrev pub may_be : Setting → Option Text → Bool
+may_be setting None = true
+may_be setting (Some text) = is_some (number_in setting.least setting.most text)
+
+pub numbered : (setting : Setting) (text : Option Text) (n : ℕ) → number_or setting text ≡ Some n → may_be setting text ≡ true
+numbered setting None n e = refl
+numbered setting (Some text) n e = ap is_some e
+
+-- the value of each option that is given is a number in its range
 abbrev pub are_numbers : List Setting → List Given → Bool
-are_numbers settings given = list_all (λ (setting : Setting). is_some (number setting (value_of given))) settings
+are_numbers settings given = list_all (λ (setting : Setting). may_be setting (value_of given setting.name)) settings
 
 first_plain : (settings : List Setting) (p : Given) (rest : List Given) → has_option settings p.0 ≡ true → are_numbers settings (p ∷ rest) ≡ true
     → not (starts_with_hyphen p.1) ≡ true
@@ -253,7 +262,7 @@ first_plain (setting ∷ settings) p rest h numbers = go (bytes_eq setting.name 
     go false e h below = below h
     go true e h below =
         let value : value_of (p ∷ rest) setting.name ≡ Some p.1 = rw (same_bytes p.0 setting.name, e) refl in
-        no_hyphen p.1 setting.least setting.most (sym (ap (λ o. is_some (number_or setting o)) value) ∙ and_left _ _ numbers)
+        no_hyphen p.1 setting.least setting.most (sym (ap (may_be setting) value) ∙ and_left _ _ numbers)
 
 pub not_given : (name : Text) (given : List Given) → is_given name given ≡ false → value_of given name ≡ None
 not_given name [] h = refl
@@ -269,13 +278,13 @@ rest_numbers : (settings : List Setting) (p : Given) (rest : List Given) → is_
 rest_numbers [] p rest new numbers = refl
 rest_numbers (setting ∷ settings) p rest new numbers = both_true _ _ (go (bytes_eq p.0 setting.name) refl) (rest_numbers settings p rest new (and_right _ _ numbers))
   where
-    go : (b : Bool) → bytes_eq p.0 setting.name ≡ b → is_some (number setting (value_of rest)) ≡ true
+    go : (b : Bool) → bytes_eq p.0 setting.name ≡ b → may_be setting (value_of rest setting.name) ≡ true
     go true e =
         let same : p.0 ≡ setting.name = search (rules, bytes_eq-Decides p.0 setting.name) in
-        ap (λ o. is_some (number_or setting o)) (not_given setting.name rest (subst (λ name. is_given name rest ≡ false) same new))
+        ap (may_be setting) (not_given setting.name rest (subst (λ name. is_given name rest ≡ false) same new))
     go false e =
         let value : value_of (p ∷ rest) setting.name ≡ value_of rest setting.name = rw e refl in
-        sym (ap (λ o. is_some (number_or setting o)) value) ∙ and_left _ _ numbers
+        sym (ap (may_be setting) value) ∙ and_left _ _ numbers
 
 all_plain : (settings : List Setting) (given : List Given) → AreKnown (has_option settings) given → are_once given ≡ true → are_numbers settings given ≡ true
     → ArePlain given

@@ -1,5 +1,5 @@
 -- The ranges of numbers that options give, and the numbers of a server made of them.
-use Rattle.std.proofs.Common.{◌≡◌, ◌&&◌, ◌<◌, ◌≤◌, ℕ, Bool, cond, codes, true, false, true≢false, refl, sym, ap, subst, arith, Option, Some, None, nat_le, nat_lt, IsSome, IfSome, ◌↔◌}
+use Rattle.std.proofs.Common.{◌≡◌, ◌&&◌, ◌≤◌, ℕ, Bool, cond, codes, true, false, true≢false, refl, sym, ap, subst, arith, Option, Some, None, nat_le, nat_lt, IsSome, IfSome, ◌↔◌}
 use Rattle.std.proofs.lemmas.Bool.Decides.{nat_tests}
 use Rattle.std.specs.Str.Parse.{digits_value}
 use Rattle.ws_kinds.specs.ConfigValue.{ConfigValue, IsConfig, config_of}
@@ -21,10 +21,14 @@ in_range least most text n e =
     let h = chosen (is_number text && (nat_le least (digits_value 10 text) && nat_le (digits_value 10 text) most)) (digits_value 10 text) n e in
     subst (λ (m : ℕ). (least ≤ m) × (m ≤ most)) h.1 (between least most (digits_value 10 text) (and_right (is_number text) _ h.0))
 
-pub ranged : (setting : Setting) (text : Option Text) (n : ℕ) → setting.least ≤ setting.usual → setting.usual ≤ setting.most → number_or setting text ≡ Some n
+usual_in : (least most : ℕ) (usual : Option ℕ) (n : ℕ) → IfSome usual (λ m. (least ≤ m) × (m ≤ most)) → usual ≡ Some n → (least ≤ n) × (n ≤ most)
+usual_in least most (Some m) n inside e = let same : m ≡ n = cc in subst (λ (m : ℕ). (least ≤ m) × (m ≤ most)) same inside
+usual_in least most None n inside e = absurd cc
+
+pub ranged : (setting : Setting) (text : Option Text) (n : ℕ) → IfSome setting.usual (λ m. (setting.least ≤ m) × (m ≤ setting.most)) → number_or setting text ≡ Some n
     → (setting.least ≤ n) × (n ≤ setting.most)
-ranged setting None n low high e = let same : setting.usual ≡ n = cc in subst (λ (m : ℕ). (setting.least ≤ m) × (m ≤ setting.most)) same (low, high)
-ranged setting (Some text) n low high e = in_range setting.least setting.most text n e
+ranged setting None n inside e = usual_in setting.least setting.most setting.usual n inside e
+ranged setting (Some text) n inside e = in_range setting.least setting.most text n e
 
 checked : (r : Option ConfigValue) (config : ConfigValue) → (IsSome r ↔ IsConfig config) → IfSome r (λ c. c ≡ config)
     → (b : Bool) → (b ≡ true → IsConfig config) → (b ≡ false → IsConfig config → ⊥) → r ≡ cond b (Some config) None
@@ -42,10 +46,10 @@ pub config_is : (value : Text → Option Text) (max_message limit ping_after idl
 config_is value max_message limit ping_after idle leave max_conns r a b c d e f some same =
     rw (a, b, c, d, e, f) (checked r (config_of max_message limit ping_after idle leave max_conns) some same (nat_lt ping_after idle)
     (λ h. record {
-      max_message = ranged max_message_option (value (codes "max-message")) max_message (omega arith) (omega arith) a;
-      limit = ranged limit_option (value (codes "limit")) limit (omega arith) (omega arith) b;
-      ping_after = ranged ping_after_option (value (codes "ping-after")) ping_after (omega arith) (omega arith) c;
-      idle = (less_is ping_after idle h, (ranged idle_option (value (codes "idle")) idle (omega arith) (omega arith) d).1);
-      leave = ranged leave_option (value (codes "leave")) leave (omega arith) (omega arith) e;
-      max_conns = ranged max_conns_option (value (codes "max-conns")) max_conns (omega arith) (omega arith) f;
+      max_message = ranged max_message_option (value (codes "max-message")) max_message (omega arith, omega arith) a;
+      limit = ranged limit_option (value (codes "limit")) limit (omega arith, omega arith) b;
+      ping_after = ranged ping_after_option (value (codes "ping-after")) ping_after (omega arith, omega arith) c;
+      idle = (less_is ping_after idle h, (ranged idle_option (value (codes "idle")) idle (omega arith, omega arith) d).1);
+      leave = ranged leave_option (value (codes "leave")) leave (omega arith, omega arith) e;
+      max_conns = ranged max_conns_option (value (codes "max-conns")) max_conns (omega arith, omega arith) f;
     }) (λ h config. let most = not_less_is ping_after idle h in let least = config.idle.0 in absurd (omega (arith, most, least))))

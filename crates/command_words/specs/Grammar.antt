@@ -7,7 +7,7 @@ use Rattle.clap.specs.Matches.{found_of}
 use Rattle.clap.specs.declared.builder.action.ArgAction.TheVariants.{Set}
 use Rattle.clap.specs.declared.parser.matches.ArgMatches.{ArgMatches}
 use Rattle.command_words.specs.declared.command.Command.{Command}
-use Rattle.command_words.specs.Meaning.{Text, Setting, ◌>>=◌, echo_of, echo_options, made_of, replay_of, replay_options}
+use Rattle.command_words.specs.Meaning.{Text, Setting, ◌>>=◌, echo_of, echo_options, made_of, replay_of, replay_options, serve_of, serve_options}
 
 -- ---- commands
 
@@ -35,11 +35,15 @@ bare_command = record (new_app (codes "wothiqa")) {
   };
 }
 
-abbrev pub commands : App
-commands = with_subcommand (with_subcommand (with_subcommand bare_command
+-- the commands that have options
+abbrev pub option_commands : App
+option_commands = with_subcommand (with_subcommand (with_subcommand bare_command
     (option_command (codes "echo") echo_options).top)
     (option_command (codes "replay") replay_options).top)
-    made_command.top
+    (option_command (codes "serve") serve_options).top
+
+abbrev pub commands : App
+commands = with_subcommand option_commands made_command.top
 
 -- ---- what clap found
 
@@ -58,4 +62,5 @@ abbrev pub command_of : Text → (Text → Option Text) → Option Command
 command_of name value =
     if bytes_eq (codes "echo") name then echo_of value
     else if bytes_eq (codes "replay") name then replay_of value
+    else if bytes_eq (codes "serve") name then serve_of value
     else made_of_values value

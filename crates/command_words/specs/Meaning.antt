@@ -1,7 +1,7 @@
 -- What the words of a command line mean: `meant`, at the end, is the command, or nothing where they break a rule. A word is the list
 -- of its UTF-8 octets.
-use Rattle.std.specs.Prelude.{◌==◌, ◌&&◌, ℕ, Bool, true, false, not, List, [], ◌∷◌, Option, Some, None, codes}
-use Rattle.std.specs.Prelude.{length, nat_le, nat_lt, if◌then◌else◌, bytes_eq, find, option_map}
+use Rattle.std.specs.Prelude.{◌≡◌, ◌==◌, ◌&&◌, ◌++◌, ℕ, Bool, true, false, not, List, [], ◌∷◌, Option, Some, None, codes}
+use Rattle.std.specs.Prelude.{String, length, map, nat_le, nat_lt, if◌then◌else◌, bytes_eq, find, option_map, string_bytes}
 use Rattle.std.specs.List.{after_first, before_first, list_all, list_any}
 use Rattle.std.specs.Char.{is_ascii_digit}
 use Rattle.std.specs.Str.Parse.{digits_value}
@@ -37,37 +37,48 @@ number_in least most text =
 
 -- ---- the options
 
--- an option: its name, the least and the greatest number that it takes, and the number that holds where it is not given
+-- an option: its name, the least and the greatest number that it takes, and the number that holds where it is not given; one with no
+-- such number has to be given
 pub record Setting : Type 0 where
   pub name : Text
   pub least : ℕ
   pub most : ℕ
-  pub usual : ℕ
+  pub usual : Option ℕ
 
 abbrev pub max_message_option : Setting
-max_message_option = record { name = codes "max-message"; least = 1; most = 65536; usual = 16384 }
+max_message_option = record { name = codes "max-message"; least = 1; most = 65536; usual = Some 16384 }
 
 abbrev pub limit_option : Setting
-limit_option = record { name = codes "limit"; least = 1; most = 1048576; usual = 65536 }
+limit_option = record { name = codes "limit"; least = 1; most = 1048576; usual = Some 65536 }
 
 abbrev pub ping_after_option : Setting
-ping_after_option = record { name = codes "ping-after"; least = 1; most = 999999; usual = 30 }
+ping_after_option = record { name = codes "ping-after"; least = 1; most = 999999; usual = Some 30 }
 
 -- `config_of_values` says that it is above `ping-after` too
 abbrev pub idle_option : Setting
-idle_option = record { name = codes "idle"; least = 1; most = 1000000; usual = 60 }
+idle_option = record { name = codes "idle"; least = 1; most = 1000000; usual = Some 60 }
 
 abbrev pub leave_option : Setting
-leave_option = record { name = codes "leave"; least = 1; most = 1000000; usual = 10 }
+leave_option = record { name = codes "leave"; least = 1; most = 1000000; usual = Some 10 }
 
 abbrev pub max_conns_option : Setting
-max_conns_option = record { name = codes "max-conns"; least = 1; most = 1024; usual = 1024 }
+max_conns_option = record { name = codes "max-conns"; least = 1; most = 1024; usual = Some 1024 }
+
+abbrev pub port_option : Setting
+port_option = record { name = codes "port"; least = 1; most = 65535; usual = None }
+
+abbrev pub turns_option : Setting
+turns_option = record { name = codes "turns"; least = 1; most = 18446744073709551615; usual = Some 18446744073709551615 }
 
 abbrev pub echo_options : List Setting
 echo_options = max_message_option ∷ []
 
 abbrev pub replay_options : List Setting
 replay_options = max_message_option ∷ limit_option ∷ ping_after_option ∷ idle_option ∷ leave_option ∷ max_conns_option ∷ []
+
+-- those of `replay`, and two more
+abbrev pub serve_options : List Setting
+serve_options = replay_options ++ port_option ∷ turns_option ∷ []
 
 -- ---- options among words
 
@@ -128,9 +139,9 @@ value_of given name = option_map (λ option. option.1) (find (λ option. bytes_e
 
 -- ---- commands
 
--- the usual number, or the one that the value writes
+-- the usual number where there is one, or the one that the value writes
 abbrev pub number_or : Setting → Option Text → Option ℕ
-number_or setting None = Some setting.usual
+number_or setting None = setting.usual
 number_or setting (Some text) = number_in setting.least setting.most text
 
 -- the number of an option, by the text of each option's value
@@ -154,6 +165,13 @@ echo_of value = number max_message_option value >>= λ max_message. Some (comman
 abbrev pub replay_of : (Text → Option Text) → Option Command
 replay_of value = config_of_values value >>= λ config. Some (command.Replay config)
 
+abbrev pub serve_of : (Text → Option Text) → Option Command
+serve_of value = do
+  config ← config_of_values value
+  port ← number port_option value
+  turns ← number turns_option value
+  Some (command.Serve config port turns)
+
 abbrev pub made_of : Text → Option Command
 made_of seed = number_in 0 18446744073709551615 seed >>= λ number. Some (command.Made number)
 
@@ -163,6 +181,9 @@ echo_meant words = options_among echo_options words >>= λ given. echo_of (value
 
 abbrev pub replay_meant : List Text → Option Command
 replay_meant words = options_among replay_options words >>= λ given. replay_of (value_of given)
+
+abbrev pub serve_meant : List Text → Option Command
+serve_meant words = options_among serve_options words >>= λ given. serve_of (value_of given)
 
 abbrev pub made_meant : List Text → Option Command
 made_meant [] = None
@@ -175,8 +196,13 @@ meant [] = None
 meant (word ∷ rest) =
     if bytes_eq (codes "echo") word then echo_meant rest
     else if bytes_eq (codes "replay") word then replay_meant rest
+    else if bytes_eq (codes "serve") word then serve_meant rest
     else if bytes_eq (codes "made") word then made_meant rest
     else None
+
+-- `serve`, with these numbers of its server, this port and so many turns
+abbrev pub IsServe : {A : Type 0} → ConfigValue → ℕ → ℕ → List (String A) → Type 0
+IsServe config port turns words = meant (map string_bytes words) ≡ Some (command.Serve config port turns)
 
 -- ---- words of which some command line with a meaning is made
 

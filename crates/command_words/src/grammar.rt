@@ -7,7 +7,7 @@ ghost use Rattle.clap.specs.declared.builder.command.Command.TheViews.{out-Comma
 ghost use Rattle.command_words.specs.Grammar as grammar;
 ghost use Rattle.command_words.specs.Setting.{setting_of};
 
-use crate::settings::{ECHO_OPTIONS, REPLAY_OPTIONS, Setting};
+use crate::settings::{ECHO_OPTIONS, REPLAY_OPTIONS, SERVE_OPTIONS, Setting};
 use clap::{Arg, ArgAction, Command};
 use std::alloc::{AllocError, Global};
 
@@ -60,12 +60,20 @@ fn bare<'a>(alloc: Global) -> Command<'a>
         .subcommand_required(true)
 }
 
-/// All commands.
-pub(crate) fn commands<'a>(alloc: Global) -> Result<Command<'a>, AllocError>
-    ensures { IfOk result (λ command. app_of command ≡ grammar.commands) }
+/// The commands that have options.
+fn option_commands<'a>(alloc: Global) -> Result<Command<'a>, AllocError>
+    ensures app { IfOk result (λ command. app_of command ≡ grammar.option_commands) }
+    ensures local { IfOk result (λ command. (out-Command command).has_globals ≡ false) }
 {
     bare(alloc)
         .subcommand(command(alloc, "echo", &ECHO_OPTIONS)?)?
         .subcommand(command(alloc, "replay", &REPLAY_OPTIONS)?)?
-        .subcommand(made(alloc)?)
+        .subcommand(command(alloc, "serve", &SERVE_OPTIONS)?)
+}
+
+/// All commands.
+pub(crate) fn commands<'a>(alloc: Global) -> Result<Command<'a>, AllocError>
+    ensures { IfOk result (λ command. app_of command ≡ grammar.commands) }
+{
+    option_commands(alloc)?.subcommand(made(alloc)?)
 }

@@ -1,6 +1,6 @@
 //! The words of a command line, read with `clap`.
 //!
-//! A first word names the command: `echo`, `replay` or `made`. Options follow in any order, each at most once, as two words
+//! A first word names the command: `echo`, `replay`, `serve` or `made`. Options follow in any order, each at most once, as two words
 //! `--name VALUE` or as one word `--name=VALUE`; behind `made` one word follows in their place, the seed. A value is decimal digits
 //! without a leading zero. Nothing else is a command line: no abbreviation, no word `--`, no words for help or a version.
 //!

@@ -6,11 +6,11 @@ pub(crate) struct Setting {
     /// Its name, without hyphens.
     pub(crate) name: &'static str,
     /// The least number that it takes.
-    pub(crate) least: u32,
+    pub(crate) least: u64,
     /// The greatest number that it takes.
-    pub(crate) most: u32,
-    /// The number that holds where the option is not given.
-    pub(crate) usual: u32,
+    pub(crate) most: u64,
+    /// The number that holds where the option is not given. Where there is none, the option has to be given.
+    pub(crate) usual: Option<u64>,
 }
 
 /// The octets of one message.
@@ -18,7 +18,7 @@ pub(crate) const MAX_MESSAGE: Setting = Setting {
     name: "max-message",
     least: 1,
     most: 65_536,
-    usual: 16_384,
+    usual: Some(16_384),
 };
 
 /// The octets held back for a connection over which frames are dropped.
@@ -26,7 +26,7 @@ pub(crate) const LIMIT: Setting = Setting {
     name: "limit",
     least: 1,
     most: 1_048_576,
-    usual: 65_536,
+    usual: Some(65_536),
 };
 
 /// The quiet ticks after which a ping is sent.
@@ -34,7 +34,7 @@ pub(crate) const PING_AFTER: Setting = Setting {
     name: "ping-after",
     least: 1,
     most: 999_999,
-    usual: 30,
+    usual: Some(30),
 };
 
 /// The quiet ticks after which a connection is ended, which are also more than `PING_AFTER`.
@@ -42,7 +42,7 @@ pub(crate) const IDLE: Setting = Setting {
     name: "idle",
     least: 1,
     most: 1_000_000,
-    usual: 60,
+    usual: Some(60),
 };
 
 /// The ticks after which a closing connection is ended.
@@ -50,7 +50,7 @@ pub(crate) const LEAVE: Setting = Setting {
     name: "leave",
     least: 1,
     most: 1_000_000,
-    usual: 10,
+    usual: Some(10),
 };
 
 /// The connections at one time.
@@ -58,7 +58,23 @@ pub(crate) const MAX_CONNS: Setting = Setting {
     name: "max-conns",
     least: 1,
     most: 1_024,
-    usual: 1_024,
+    usual: Some(1_024),
+};
+
+/// The port to listen at.
+pub(crate) const PORT: Setting = Setting {
+    name: "port",
+    least: 1,
+    most: 65_535,
+    usual: None,
+};
+
+/// The turns after which a server ends.
+pub(crate) const TURNS: Setting = Setting {
+    name: "turns",
+    least: 1,
+    most: u64::MAX,
+    usual: Some(u64::MAX),
 };
 
 /// The options of `echo`.
@@ -72,4 +88,16 @@ pub(crate) const REPLAY_OPTIONS: [Setting; 6] = [
     IDLE,
     LEAVE,
     MAX_CONNS,
+];
+
+/// The options of `serve`.
+pub(crate) const SERVE_OPTIONS: [Setting; 8] = [
+    MAX_MESSAGE,
+    LIMIT,
+    PING_AFTER,
+    IDLE,
+    LEAVE,
+    MAX_CONNS,
+    PORT,
+    TURNS,
 ];

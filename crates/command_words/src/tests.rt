@@ -12,7 +12,7 @@ fn words_of(alloc: Global, line: &str) -> Result<Vec<String>, AllocError> {
     Ok(words)
 }
 
-/// `replay` with its numbers, in the order of the table of ranges.
+/// The numbers of a server, in the order of the table of ranges.
 fn config_text(alloc: Global, config: Config) -> Result<String, AllocError> {
     let (max_message, limit, max_conns) = (
         config.max_message(),
@@ -20,14 +20,25 @@ fn config_text(alloc: Global, config: Config) -> Result<String, AllocError> {
         config.max_conns(),
     );
     let (ping_after, idle, leave) = (config.ping_after(), config.idle(), config.leave());
-    format!(in alloc; "replay {max_message} {limit} {ping_after} {idle} {leave} {max_conns}")
+    format!(in alloc; "{max_message} {limit} {ping_after} {idle} {leave} {max_conns}")
 }
 
 /// A command with its numbers.
 fn command_text(alloc: Global, command: Command) -> Result<String, AllocError> {
     match command {
         Command::Echo { max_message } => format!(in alloc; "echo {max_message}"),
-        Command::Replay(config) => config_text(alloc, config),
+        Command::Replay(config) => {
+            let config = config_text(alloc, config)?;
+            format!(in alloc; "replay {config}")
+        }
+        Command::Serve {
+            config,
+            port,
+            turns,
+        } => {
+            let config = config_text(alloc, config)?;
+            format!(in alloc; "serve {config} {port} {turns}")
+        }
         Command::Made { seed } => format!(in alloc; "made {seed}"),
     }
 }
@@ -90,14 +101,14 @@ fn plain_options<'a>(
     Ok(Some(options))
 }
 
-/// An option's number: the usual one where it is not given, and nothing where it is given twice or its value is none from
-/// `least` to `most`.
-fn plain_value(
+/// An option's number: the usual one, if any, where it is not given, and nothing where it is given twice or its value is none
+/// from `least` to `most`.
+fn plain_long_value(
     alloc: Global,
     options: &[(&str, &str)],
     wanted: &str,
-    (least, most, usual): (u32, u32, u32),
-) -> Result<Option<u32>, AllocError> {
+    (least, most, usual): (u64, u64, Option<u64>),
+) -> Result<Option<u64>, AllocError> {
     let mut values = Vec::new(alloc);
     for (name, value) in options {
         if *name == wanted {
@@ -105,13 +116,22 @@ fn plain_value(
         }
     }
     match values.as_slice() {
-        [] => Ok(Some(usual)),
-        [value] => {
-            let number = plain_number(alloc, value, u64::from(least), u64::from(most))?;
-            Ok(number.and_then(|number| u32::try_from(number).ok()))
-        }
+        [] => Ok(usual),
+        [value] => plain_number(alloc, value, least, most),
         _ => Ok(None),
     }
+}
+
+/// The number of an option whose numbers have 32 bits.
+fn plain_value(
+    alloc: Global,
+    options: &[(&str, &str)],
+    wanted: &str,
+    (least, most, usual): (u32, u32, u32),
+) -> Result<Option<u32>, AllocError> {
+    let range = (u64::from(least), u64::from(most), Some(u64::from(usual)));
+    let number = plain_long_value(alloc, options, wanted, range)?;
+    Ok(number.and_then(|number| u32::try_from(number).ok()))
 }
 
 /// Whether each option has one of these names.
@@ -181,6 +201,40 @@ fn plain_replay(alloc: Global, words: &[String]) -> Result<Option<Command>, Allo
     Ok(config.map(Command::Replay))
 }
 
+/// What words behind `serve` mean.
+fn plain_serve(alloc: Global, words: &[String]) -> Result<Option<Command>, AllocError> {
+    let names = [
+        "max-message",
+        "limit",
+        "ping-after",
+        "idle",
+        "leave",
+        "max-conns",
+        "port",
+        "turns",
+    ];
+    let Some(options) = plain_options(alloc, words)? else {
+        return Ok(None);
+    };
+    let options = options.as_slice();
+    if !are_known(options, &names) {
+        return Ok(None);
+    }
+    let Some(config) = plain_config(alloc, options)? else {
+        return Ok(None);
+    };
+    let port = plain_long_value(alloc, options, "port", (1, 65_535, None))?;
+    let Some(port) = port.and_then(|port| u16::try_from(port).ok()) else {
+        return Ok(None);
+    };
+    let turns = plain_long_value(alloc, options, "turns", (1, u64::MAX, Some(u64::MAX)))?;
+    Ok(turns.map(|turns| Command::Serve {
+        config,
+        port,
+        turns,
+    }))
+}
+
 /// What words behind `made` mean.
 fn plain_made(alloc: Global, words: &[String]) -> Result<Option<Command>, AllocError> {
     let [seed] = words else {
@@ -198,6 +252,7 @@ fn plain(alloc: Global, words: &[String]) -> Result<Option<Command>, AllocError>
     match command.as_str() {
         "echo" => plain_echo(alloc, rest),
         "replay" => plain_replay(alloc, rest),
+        "serve" => plain_serve(alloc, rest),
         "made" => plain_made(alloc, rest),
         _ => Ok(None),
     }
@@ -270,6 +325,26 @@ const COMMANDS: &[(&str, &str)] = &[
         "replay --max-conns 6 --leave=5 --idle 4 --ping-after=3 --limit 2 --max-message=1",
         "replay 1 2 3 4 5 6",
     ),
+    (
+        "serve --port 1",
+        "serve 16384 65536 30 60 10 1024 1 18446744073709551615",
+    ),
+    (
+        "serve --port=65535",
+        "serve 16384 65536 30 60 10 1024 65535 18446744073709551615",
+    ),
+    (
+        "serve --turns 1 --port 80",
+        "serve 16384 65536 30 60 10 1024 80 1",
+    ),
+    (
+        "serve --port=80 --turns=18446744073709551615",
+        "serve 16384 65536 30 60 10 1024 80 18446744073709551615",
+    ),
+    (
+        "serve --turns=8 --max-conns 6 --leave=5 --port 7 --idle 4 --ping-after=3 --limit 2 --max-message=1",
+        "serve 1 2 3 4 5 6 7 8",
+    ),
     ("made 0", "made 0"),
     ("made 7", "made 7"),
     ("made 18446744073709551615", "made 18446744073709551615"),
@@ -285,8 +360,8 @@ const NO_COMMANDS: &[&str] = &[
     "Echo",
     "echo ",
     "echo echo",
-    "serve",
-    "serve --port 80",
+    "serv --port 80",
+    "Serve --port 80",
     "--max-message 1 echo",
     "--max-message=1 echo",
     // out of the range
@@ -309,6 +384,14 @@ const NO_COMMANDS: &[&str] = &[
     "replay --limit 18446744073709551617",
     "replay --limit 00000000000000000001",
     "replay --limit 99999999999999999999",
+    "serve --port 0",
+    "serve --port=65536",
+    "serve --port 18446744073709551617",
+    "serve --port 80 --turns 0",
+    "serve --port 80 --turns=0",
+    "serve --port 80 --turns 18446744073709551616",
+    "serve --port 80 --turns=99999999999999999999",
+    "serve --port 80 --max-conns 1025",
     // `idle` is not above `ping-after`
     "replay --idle 30",
     "replay --idle 0",
@@ -317,6 +400,7 @@ const NO_COMMANDS: &[&str] = &[
     "replay --ping-after 200",
     "replay --idle 7 --ping-after 7",
     "replay --idle 7 --ping-after=8",
+    "serve --port 80 --idle 30",
     // a value that is no number
     "replay --limit=",
     "replay --limit ",
@@ -334,6 +418,10 @@ const NO_COMMANDS: &[&str] = &[
     "replay --limit --max-message",
     "replay --limit --max-message=1",
     "replay --limit=--max-message=1",
+    "serve --port=",
+    "serve --port 080",
+    "serve --port 80 --turns 01",
+    "serve --port --turns 1",
     // options that are not there, or twice
     "replay --limit",
     "replay --limit 1 --limit 2",
@@ -344,8 +432,18 @@ const NO_COMMANDS: &[&str] = &[
     "replay --max_message 3",
     "replay --LIMIT 3",
     "replay -limit 3",
+    "serve",
+    "serve --turns 1",
+    "serve --limit 3 --idle 70",
+    "serve --port",
+    "serve --port 80 --port 80",
+    "serve --port=80 --port 81",
+    "serve --port 80 --turns 1 --turns=1",
+    "serve --port 80 --seed 3",
     "replay --port 80",
     "replay --turns 1",
+    "echo --port 80",
+    "echo --turns=1",
     "echo --limit 3",
     "echo --max-message 1 --idle 50",
     "made --max-message 1 7",
@@ -355,6 +453,8 @@ const NO_COMMANDS: &[&str] = &[
     "echo 1",
     "echo --max-message 1 2",
     "replay 3",
+    "serve 80",
+    "serve --port 80 3",
     "replay --limit 3 echo",
     "replay  --limit 3",
     // hyphens
@@ -415,13 +515,14 @@ const PIECES: &[&str] = &[
     "--idle=31",
     "--max-message",
     "--max-message=65537",
+    "--port=80",
 ];
 
-/// The command and up to three of the pieces, by a number below 14 * 14 * 14.
+/// The command and up to three of the pieces, by a number below 15 * 15 * 15.
 fn words_by_number(alloc: Global, command: &str, number: usize) -> Result<Vec<String>, AllocError> {
     let mut words = Vec::new(alloc);
     words.push(command.to_string(alloc)?)?;
-    for place in [number % 14, number / 14 % 14, number / 196 % 14] {
+    for place in [number % 15, number / 15 % 15, number / 225 % 15] {
         if let Some(piece) = PIECES.get(place) {
             words.push(piece.to_string(alloc)?)?;
         }
@@ -431,7 +532,7 @@ fn words_by_number(alloc: Global, command: &str, number: usize) -> Result<Vec<St
 
 /// The first number whose words the plain program reads otherwise.
 fn first_apart(alloc: Global, command: &str) -> Result<Option<usize>, AllocError> {
-    for number in 0..2_744 {
+    for number in 0..3_375 {
         let words = words_by_number(alloc, command, number)?;
         let words = words.as_slice();
         if !is_same(alloc, read(alloc, words)?, plain(alloc, words)?)? {
@@ -448,6 +549,7 @@ fn lines(rt: HostRuntime) -> Result<(), Fail> {
     assert!(rt; read(rt.alloc(), &[])?.is_none());
     assert_eq!(rt; first_apart(rt.alloc(), "echo")?, None);
     assert_eq!(rt; first_apart(rt.alloc(), "replay")?, None);
+    assert_eq!(rt; first_apart(rt.alloc(), "serve")?, None);
     assert_eq!(rt; first_apart(rt.alloc(), "made")?, None);
     Ok(())
 }

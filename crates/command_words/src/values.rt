@@ -1,6 +1,6 @@
 //! A command from the texts of its values.
 
-ghost use Rattle.std.specs.Prelude.{◌≡◌, ◌≤◌, IfSome};
+ghost use Rattle.std.specs.Prelude.{◌≡◌, ◌≤◌, ◌<◌, ◌^◌, IfSome};
 ghost use Rattle.std.specs.Char.{is_ascii_digit};
 ghost use Rattle.std.specs.List.{list_all};
 ghost use Rattle.command_words.specs.Meaning as meaning;
@@ -8,7 +8,9 @@ ghost use Rattle.command_words.specs.Grammar as grammar;
 ghost use Rattle.command_words.specs.Setting.{setting_of};
 
 use crate::command::Command;
-use crate::settings::{IDLE, LEAVE, LIMIT, MAX_CONNS, MAX_MESSAGE, PING_AFTER, Setting};
+use crate::settings::{
+    IDLE, LEAVE, LIMIT, MAX_CONNS, MAX_MESSAGE, PING_AFTER, PORT, Setting, TURNS,
+};
 use clap::ArgMatches;
 use ws_kinds::Config;
 
@@ -53,33 +55,51 @@ fn given<'a>(matches: &ArgMatches<'a>, name: &str) -> Option<&'a str>
 }
 
 /// The number of an option.
-fn number(matches: &ArgMatches, setting: Setting) -> Option<u32>
+fn number(matches: &ArgMatches, setting: Setting) -> Option<u64>
+    requires usual { IfSome setting.usual (λ usual. usual ≤ setting.most) }
     ensures value { result ≡ meaning.number (setting_of setting) (grammar.values_of matches.now) }
+    ensures range { IfSome result (λ number. number ≤ setting.most) }
 {
     let Some(text) = given(matches, setting.name) else {
-        return Some(setting.usual);
+        return setting.usual;
     };
-    let number = number_in(text, u64::from(setting.least), u64::from(setting.most))?;
+    number_in(text, setting.least, setting.most)
+}
+
+/// The number of an option whose numbers have 32 bits.
+fn short_number(matches: &ArgMatches, setting: Setting) -> Option<u32>
+    requires usual { IfSome setting.usual (λ usual. usual ≤ setting.most) }
+    requires short { setting.most < 2 ^ 32 }
+    ensures value { result ≡ meaning.number (setting_of setting) (grammar.values_of matches.now) }
+{
+    let number = number(matches, setting)?;
     u32::try_from(number).ok()
+}
+
+fn port(matches: &ArgMatches) -> Option<u16>
+    ensures { result ≡ meaning.number meaning.port_option (grammar.values_of matches.now) }
+{
+    let port = number(matches, PORT)?;
+    u16::try_from(port).ok()
 }
 
 /// The numbers of a server.
 fn config(matches: &ArgMatches) -> Option<Config>
     ensures { result ≡ meaning.config_of_values (grammar.values_of matches.now) }
 {
-    let max_message = number(matches, MAX_MESSAGE)?;
-    let limit = number(matches, LIMIT)?;
-    let ping_after = number(matches, PING_AFTER)?;
-    let idle = number(matches, IDLE)?;
-    let leave = number(matches, LEAVE)?;
-    let max_conns = number(matches, MAX_CONNS)?;
+    let max_message = short_number(matches, MAX_MESSAGE)?;
+    let limit = short_number(matches, LIMIT)?;
+    let ping_after = short_number(matches, PING_AFTER)?;
+    let idle = short_number(matches, IDLE)?;
+    let leave = short_number(matches, LEAVE)?;
+    let max_conns = short_number(matches, MAX_CONNS)?;
     Config::checked(max_message, limit, ping_after, idle, leave, max_conns)
 }
 
 fn echo(matches: &ArgMatches) -> Option<Command>
     ensures { result ≡ meaning.echo_of (grammar.values_of matches.now) }
 {
-    let max_message = number(matches, MAX_MESSAGE)?;
+    let max_message = short_number(matches, MAX_MESSAGE)?;
     Some(Command::Echo { max_message })
 }
 
@@ -88,6 +108,19 @@ fn replay(matches: &ArgMatches) -> Option<Command>
 {
     let config = config(matches)?;
     Some(Command::Replay(config))
+}
+
+fn serve(matches: &ArgMatches) -> Option<Command>
+    ensures { result ≡ meaning.serve_of (grammar.values_of matches.now) }
+{
+    let config = config(matches)?;
+    let port = port(matches)?;
+    let turns = number(matches, TURNS)?;
+    Some(Command::Serve {
+        config,
+        port,
+        turns,
+    })
 }
 
 fn made(matches: &ArgMatches) -> Option<Command>
@@ -106,6 +139,9 @@ pub(crate) fn command(name: &str, matches: &ArgMatches) -> Option<Command>
     }
     if name == "replay" {
         return replay(matches);
+    }
+    if name == "serve" {
+        return serve(matches);
     }
     made(matches)
 }

@@ -1,5 +1,5 @@
 -- A connection that the server closes.
-use Rattle.hub_core.proofs.Below.{◌≡◌, ◌≤◌, ℕ, List, [], ◌∷◌, Option, Some, None, Bool, true, false, cond, not, ◌||◌, nat_eq, nat_lt, length, refl, sym, ap, ◌∙◌, subst, arith, nat_tests, clash, same_number, other_number, Phase, Head, Open, Leaving, Ending, Gone, NotOpen, NoteValue, NetState, is_open, first_reason, topics_left, leaves_open, every_topic, unless_gone, HubState, Entry, Server, server, entry_at, is_gone, cork_at, pending_at, held_at, Ties, only, Obeys, served_by, TopicsEnd, Progress, progress_at, progress_obeys, due_at, topics_at, standings_at, count_of, tell_at, ServesOrder, is_utf8, BadCode, close, is_sendable, close_frame, closing, is_bad_close, why_close, only_turned, BeginsToLeave, Closes}
+use Rattle.hub_core.proofs.Below.{◌≡◌, ◌≤◌, ℕ, List, [], ◌∷◌, Option, Some, None, Bool, true, false, cond, not, ◌||◌, nat_eq, nat_lt, length, refl, sym, ap, ◌∙◌, subst, arith, nat_tests, clash, same_number, other_number, Phase, Head, Open, Leaving, Ending, Gone, NotOpen, NoteValue, NetState, is_open, first_reason, topics_left, leaves_open, unless_gone, HubState, Entry, Server, server, entry_at, is_gone, cork_at, pending_at, held_at, Ties, only, Obeys, served_by, TopicsEnd, Progress, progress_at, progress_obeys, due_at, topics_at, standings_at, count_of, tell_at, ServesOrder, is_utf8, BadCode, close, is_sendable, close_frame, closing, is_bad_close, why_close, only_turned, BeginsToLeave, Closes}
 use Rattle.hub_core.proofs.StateLemmas.{change_named, change_progress, progress_of, same_or_not}
 use Rattle.hub_core.proofs.NoteLemmas.{Still, counts_changed, still_of}
 use Rattle.hub_core.proofs.CallLemmas.{Stays, appends_stay, ties_stay}
@@ -107,10 +107,10 @@ module _ {c code : ℕ} {reason : List ℕ} {a b : HubState} (x : BeginsToLeave 
 
 -- ---- the order
 
-pub order_closed : (from number code : ℕ) (reason : List ℕ) (a b : Server) → why_close (standings_at a.hub from).phase code reason ≡ None → TopicsEnd a → Closes from code reason a b → ServesOrder from number (close code reason) a b
-order_closed from number code reason a b none ends x = record {
+pub order_closed : (admits : List ℕ → Bool) (from number code : ℕ) (reason : List ℕ) (a b : Server) → why_close (standings_at a.hub from).phase code reason ≡ None → TopicsEnd a → Closes from code reason a b → ServesOrder admits from number (close code reason) a b
+order_closed admits from number code reason a b none ends x = record {
   ties = x.sends.ties;
-  serves = served_by a.hub.config every_topic from number a b (close code reason) (only from (close_frame code reason)) x.between none ends x.obeys x.sends.proceeds x.sends.appends (λ c. only_turned from c (close_frame code reason));
+  serves = served_by a.hub.config admits from number a b (close code reason) (only from (close_frame code reason)) x.between none ends x.obeys x.sends.proceeds x.sends.appends (λ c. only_turned from c (close_frame code reason));
   named = x.sends.named ∙ x.named;
   table = x.sends.table;
 }

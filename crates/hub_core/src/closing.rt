@@ -12,7 +12,7 @@ ghost use Rattle.hub_notes.specs.Progress.{standings_at};
 ghost use Rattle.hub_core.specs.At.{at};
 ghost use Rattle.hub_core.specs.Closing.{BeginsToLeave, Closes};
 ghost use Rattle.hub_core.specs.Sends.{Sends};
-ghost use Rattle.hub_core.specs.Serving.{ServesOrder};
+ghost use Rattle.hub_core.specs.Serving.{ServesByEachRule};
 
 use crate::Hub;
 use frame_writer::close_payload;
@@ -34,7 +34,7 @@ impl Hub {
         reason: &[u8],
     )
         requires ties { Ties (at N.Net W.Watch self.old out.old) }
-        ensures { ServesOrder conn.0 number (close code reason.now) (at N.Net W.Watch self.old out.old) (at N.Net W.Watch self.new out.new) }
+        ensures { ServesByEachRule conn.0 number (close code reason.now) (at N.Net W.Watch self.old out.old) (at N.Net W.Watch self.new out.new) }
     {
         let _ = &self.table;
         match self.close_refusal(conn, code, reason) {

@@ -9,7 +9,7 @@ ghost use Rattle.hub_lines.specs.Calls.{Ties, is_sender};
 ghost use Rattle.hub_notes.specs.Progress.{standings_at};
 ghost use Rattle.hub_core.specs.At.{at};
 ghost use Rattle.hub_core.specs.Publishing.{Publishes, PublishesMessage, PutsUnless, number_in, receivers as receivers_of};
-ghost use Rattle.hub_core.specs.Serving.{ServesOrder};
+ghost use Rattle.hub_core.specs.Serving.{ServesByEachRule};
 
 use crate::Hub;
 use crate::orders::is_bad_text;
@@ -59,7 +59,7 @@ impl Hub {
         body: &[u8],
     )
         requires ties { Ties (at N.Net W.Watch self.old out.old) }
-        ensures { ServesOrder conn.0 number (publishes topic.now kind body.now) (at N.Net W.Watch self.old out.old) (at N.Net W.Watch self.new out.new) }
+        ensures { ServesByEachRule conn.0 number (publishes topic.now kind body.now) (at N.Net W.Watch self.old out.old) (at N.Net W.Watch self.new out.new) }
     {
         let _ = &self.table;
         match self.publish_refusal(topic, kind, body) {

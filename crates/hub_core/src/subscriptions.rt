@@ -6,10 +6,12 @@ ghost use Rattle.run_meaning.specs.Orders.{is_bad_topic as IsBadTopic, why_unsub
 ghost use Rattle.hub_lines.specs.Calls.{Ties};
 ghost use Rattle.hub_notes.specs.Progress.{standings_at};
 ghost use Rattle.hub_core.specs.At.{at};
-ghost use Rattle.hub_core.specs.Serving.{ServesOrder};
+ghost use Rattle.hub_core.specs.Serving.{ServesByEachRule, ServesOrder};
+ghost use Rattle.topic_guard.specs.Admits.{admits};
 
 use crate::Hub;
 use link_trait::{Net, Outside};
+use topic_guard::TopicGuard;
 use ws_kinds::{Conn, Watch, Why};
 
 /// The most octets that a topic has.
@@ -19,33 +21,38 @@ impl Hub {
     pub(crate) fn serve_subscribe<N: Net, W: Watch>(
         &mut self,
         out: &mut Outside<N, W>,
+        guard: &TopicGuard,
         conn: Conn,
         number: u8,
         topic: &[u8],
     )
         requires ties { Ties (at N.Net W.Watch self.old out.old) }
-        ensures { ServesOrder conn.0 number (subscribes topic.now) (at N.Net W.Watch self.old out.old) (at N.Net W.Watch self.new out.new) }
+        ensures { ServesOrder (admits guard.now.rule) conn.0 number (subscribes topic.now) (at N.Net W.Watch self.old out.old) (at N.Net W.Watch self.new out.new) }
     {
         let _ = &self.table;
         match self.topic_refusal(conn, topic) {
             Some(why) => self.unserved(out, conn, number, why),
-            None => self.subscribe(out, conn, number, topic),
+            None => self.subscribe(out, guard, conn, number, topic),
         }
     }
 
-    /// Subscribes an open connection to what is a topic.
+    /// Subscribes an open connection to what is a topic, where the guard allows it.
     fn subscribe<N: Net, W: Watch>(
         &mut self,
         out: &mut Outside<N, W>,
+        guard: &TopicGuard,
         conn: Conn,
         number: u8,
         topic: &[u8],
     )
         requires fits { why_unsubscribe (standings_at self.old conn.0).phase topic.now ≡ None }
         requires ties { Ties (at N.Net W.Watch self.old out.old) }
-        ensures { ServesOrder conn.0 number (subscribes topic.now) (at N.Net W.Watch self.old out.old) (at N.Net W.Watch self.new out.new) }
+        ensures { ServesOrder (admits guard.now.rule) conn.0 number (subscribes topic.now) (at N.Net W.Watch self.old out.old) (at N.Net W.Watch self.new out.new) }
     {
         let _ = &self.table;
+        if !guard.allows(topic) {
+            return self.unserved(out, conn, number, Why::Forbidden);
+        }
         match self.topics.subscribe(conn, topic) {
             Ok(_) => {}
             Err(why) => self.unserved(out, conn, number, why),
@@ -60,7 +67,7 @@ impl Hub {
         topic: &[u8],
     )
         requires ties { Ties (at N.Net W.Watch self.old out.old) }
-        ensures { ServesOrder conn.0 number (unsubscribe topic.now) (at N.Net W.Watch self.old out.old) (at N.Net W.Watch self.new out.new) }
+        ensures { ServesByEachRule conn.0 number (unsubscribe topic.now) (at N.Net W.Watch self.old out.old) (at N.Net W.Watch self.new out.new) }
     {
         let _ = &self.table;
         match self.topic_refusal(conn, topic) {

@@ -106,12 +106,12 @@ module _ {S : Type 0} (b : Beginning S) (conn : ℕ) where
   pub keep_opened : (end : ℕ) (accept : List ℕ) (protocol : Bool) (text : List ℕ) (a m d : Server) (now next : S) (view opened : IntakeView) (given : EventValue) → given ≡ event_for conn opened event.opened → phase_at a.hub conn ≡ Some Head
       → Judged b.table view.reader.raw (admit end opened.route opened.param accept protocol) → end ≤ length view.reader.raw → ((more : List ℕ) → opened.reader.ahead more ≡ reading view.reader.max (drop end view.reader.raw ++ more))
       → text ≡ answer_text b.table (admit end opened.route opened.param accept protocol) → (x : Proceeds (note.opened conn opened.route opened.param ∷ []) [] a m) → Appends (only conn (replied text)) a m
-      → next ≡ b.after now given → ServesOrders conn (b.said next given) m d → IsTable (table_of d.hub) → KeepsOne b conn (Some conn) (Some conn) view opened a now d next
+      → next ≡ b.after now given → ServesOrders b.admits conn (b.said next given) m d → IsTable (table_of d.hub) → KeepsOne b conn (Some conn) (Some conn) view opened a now d next
   keep_opened end accept protocol text a m d now next view opened given event_is is judged within skipped text_is x app state served whole = record {
     kept = λ views at all.
-        let grows = grows_then a m d (grows_proceeds (note.opened conn opened.route opened.param ∷ []) [] a m x) (grows_served conn (b.said next given) m d served) in
+        let grows = grows_then a m d (grows_proceeds (note.opened conn opened.route opened.param ∷ []) [] a m x) (grows_served b.admits conn (b.said next given) m d served) in
         record {
-          admitted = admitted_on b m d (grows_served conn (b.said next given) m d served) (opens_served conn (b.said next given) m d served)
+          admitted = admitted_on b m d (grows_served b.admits conn (b.said next given) m d served) (opens_served b.admits conn (b.said next given) m d served)
               (admitted_now a m now views view all at is end opened.route opened.param accept protocol judged x);
           holds =
               holds_on b a d now next views (with_view conn opened views) (Some conn) (Some conn) grows
@@ -123,7 +123,7 @@ module _ {S : Type 0} (b : Beginning S) (conn : ℕ) where
               let head = head_there r b.config b.table ns conn a now views (Some conn) old.kept is in
               let seen : view.reader.raw ≡ a.net.given conn = ap (λ (z : IntakeView). z.reader.raw) (sym at) ∙ head.raw in
               let made : List NoteValue = n ∷ (x.sending ++ []) in
-              let rest = (grows_served conn (b.said next given) m d served).told ms told in
+              let rest = (grows_served b.admits conn (b.said next given) m d served).told ms told in
               let told_m : m.told ≡ Some (ns ++ made) = told_is ns made rest.0 a.told m.told x.advances.told was rest.2 in
               let all : ms ≡ ns ++ n ∷ ((x.sending ++ []) ++ rest.1) = rest.3 ∙ ap (λ (z : List NoteValue). z ++ rest.1) (same_notes rest.0 (ns ++ made) (sym rest.2 ∙ told_m)) ∙ append_assoc ns made rest.1 in
               let judged_given : Judged b.table (a.net.given conn) (admit end opened.route opened.param accept protocol) = subst (λ (z : List ℕ). Judged b.table z (admit end opened.route opened.param accept protocol)) seen judged in

@@ -139,7 +139,7 @@ module _ {H : Type 0} {handler : HandlerMeaning H} (conn : Conn) (old : Intakes)
         running = running_same Every old new (server h end t') (running_steps Every old (server h net t) (server h end t') x s) same;
         onward = s.onward;
         there = λ before next there. there_away conn h before net end t t' next shuts there;
-        kept = λ table before next few start config views are k. (views, views_same old new views same are, keep (beginning handler start config table) before views next few k);
+        kept = λ admits table before next few start config views are k. (views, views_same old new views same are, keep (beginning handler admits start config table) before views next few k);
       }
 
   -- the hub refused it
@@ -157,7 +157,7 @@ module _ {H : Type 0} {handler : HandlerMeaning H} (conn : Conn) (old : Intakes)
         running = running_shut conn.0 old new (server b.hub end b.told) (running_steps Every old (server h net t) (server b.hub end b.told) x s) change none unkept;
         onward = s.onward;
         there = λ before next there. there_shut conn (n ∷ []) (server h before t) b net end next makes.advances shuts there;
-        kept = λ table before next few start config views are k. (views, views_shut conn.0 old new views are change none, keep (beginning handler start config table) before views next few k);
+        kept = λ admits table before next few start config views are k. (views, views_shut conn.0 old new views are change none, keep (beginning handler admits start config table) before views next few k);
       })
 
   -- it was accepted
@@ -170,9 +170,9 @@ module _ {H : Type 0} {handler : HandlerMeaning H} (conn : Conn) (old : Intakes)
         running = running_accepted conn.0 old new (server h net t) b x fresh change made arrives unasked named ties app table;
         onward = onward_accepted conn.0 old new (server h net t) b x fresh change made arrives unasked named ties app table;
         there = λ before next there. there_arrived conn (server h before t) b net next arrives.3.advances x.table fresh there;
-        kept = λ routes before next few start config views are k. (
+        kept = λ admits routes before next few start config views are k. (
           with_view conn.0 (intake_view here.0) views,
           views_new conn.0 old new views here.0 are change here.1,
-          keep here.0 here.2 (beginning handler start config routes) before views next few k,
+          keep here.0 here.2 (beginning handler admits start config routes) before views next few k,
         );
       }

@@ -7,7 +7,7 @@ pub use Rattle.std.proofs.lemmas.List.{append_cancel_left, length-map, length-ta
 pub use Rattle.std.proofs.lemmas.Map.Entries.{lookup-filter-keys}
 pub use Rattle.std.proofs.lemmas.Map.Made.{filter_same_pairs}
 pub use Rattle.std.proofs.lemmas.Map.Steps.{length-le_from_keys}
-pub use Rattle.loop_runner.specs.All.{BTreeMap, WritesThrough, btree_map_len, get, is_at, eq_by_cmp_equiv, w16, w64, AllByRecursion, filter, list_all, list_any, lookup, eq_by_cmp, nat_cmp, is_utf8, ConfigValue, EventValue, NoteValue, OrderValue, close, publish, send, subscribe, unsubscribe, with_topic, without_topic, AreNoted, IsNoted, Conn, HandlerMeaning, Kind, Left, LinkFailed, PeerEnd, Phase, Ending, Gone, Head, Leaving, Open, Item, close_item, replied, whole, CanBeTold, Event, closed, failed, message, ping, pong, unmasked, Begun, Front, data_front, ends, events_from, gives, is_text, more, opens, reading, is_text_front, Pong, Rose, CountsFault, CountsNetReadFaults, CountsNextFaults, Frees, NetGives, Nexts, Reads, Same, SameNet, Shuts, is_rest, passed_after, passing, NetState, NetEvent, NetRead, Middle, middle_front, ahead, has_ended, raw_of, begun_of, coming, middle_of, HasStepped, IsMore, events_of, is_last, Reader, State, AtFrameStart, Ended, InDataFrame, RouteTable, Judged, Verdict, admit, answer_text, refuse, undecided, refusal_text, reply_text, is_accepted, is_gone_in, number_of, LivedThroughout, heard, is_frame_heard, last_frame, read, cause_of, closing, is_open, leaves_open, moved, phase, plain, topics_left, world, Follows, arrival, is_acceptance, is_of, is_turn, Standing, unless_gone, Answers, Performs, is_link_failure, is_outgoing, refuses, serves, AreAdmitted, AreReplies, is_opened, is_opened_in, Right, entries, Meaning, every_topic, BetweenTurns, is_reading, after_turn, at_first, Step, by_note, by_order, notes_of, of_notes, standings_after, has_news, is_telling, AreTold, tell, Settled, ShortRings, Ties, nothing, only, served, Entry, HubState, PartingValue, Server, TellingValue, entry_at, entry_of, has_entry, is_gone, is_present, phase_at, ring_at, server, is_silent, Arrives, Makes, has_frames, Advances, Appends, Proceeds, RingsWait, Waits, NetAfter, RoseBy, NoneToTell, news_at, Progress, due_at, progress_after, progress_after_all, progress_at, progress_by, progress_by_steps, progress_obeys, standings_at, AreAbove, AreRising, IsTable, TakesDue, table_of, TellsBy, tell_at, tell_of, EndsTurn, Offers, finishes, Busy, Memory, Taken, parting_value, at, GivesOctets, LosesLink, Notes, Sends, Agrees, HearsFrames, HearsHead, IsFed, IsRead, ReaderView, reader_view, is_of_orders, KeepsOwed, TellsAll, TellsTo, HoldsAs, IsTold, TellsNext, AreThere, backlog_at, event_for, HearsAt, IntakeView, Kept, RestsAt, SameButReader, Shows, AreSound, is_inner, IsSound, decision_seen, ChangesIntake, IsNew, SameIntakes, intake_at, is_admitted, max_of, AreFew, AreViews, Beginning, EndsWithTurn, ForNotes, ForReplies, Holds, IsBetweenTurns, IsLivedThroughout, IsRight, IsSettled, IsSettledIfTold, IsToldNow, KeptAll, beginning, intake_view, meaning_of, view_by, view_of, with_view, HandsOut, IsKeptThen, Keeps, KeepsOn, KeepsOne, KeepsView, Moment, ServesOrders, TakesIn, moment, with_net, IsAsked, IsDrained, IsTaken, Ready, But, Every, Grows, HasFrames, NotesTurns, OfNotes, OffersIfThere, Onward, RisesBeyond, Running, StaysOrLeaves, Steps, StepsWith, Takes, is_kept_at, weight_at, weight_below, weight_of, EndsEvents, MakesRun, MakesTurn, MakesTurns, TakesEvent, WhereKept, AreBetween, AreTurns, FailsAs, FailsBeyondLinks, GrowsBy, NotesRun, Passes, PassesBetween, PassesTurn, PassesTurns, RunFailsAs, Runs, ending, goes_on, is_between, Decision, More, Refuse, Intake, Intakes, Turned, Ran, is_ticking, is_tick, is_uncounted, Timely, Does, CountsBeside, CountsBy, SameCounts, counts_at, Ticks, is_of_tick, no_entry, IsTicked, IsConfig}
+pub use Rattle.loop_runner.specs.All.{BTreeMap, WritesThrough, btree_map_len, get, is_at, eq_by_cmp_equiv, w16, w64, AllByRecursion, filter, list_all, list_any, lookup, eq_by_cmp, nat_cmp, is_utf8, ConfigValue, EventValue, NoteValue, OrderValue, close, publish, send, subscribe, unsubscribe, with_topic, without_topic, AreNoted, IsNoted, Conn, HandlerMeaning, Kind, Left, LinkFailed, PeerEnd, Phase, Ending, Gone, Head, Leaving, Open, Item, close_item, replied, whole, CanBeTold, Event, closed, failed, message, ping, pong, unmasked, Begun, Front, data_front, ends, events_from, gives, is_text, more, opens, reading, is_text_front, Pong, Rose, CountsFault, CountsNetReadFaults, CountsNextFaults, Frees, NetGives, Nexts, Reads, Same, SameNet, Shuts, is_rest, passed_after, passing, NetState, NetEvent, NetRead, Middle, middle_front, ahead, has_ended, raw_of, begun_of, coming, middle_of, HasStepped, IsMore, events_of, is_last, Reader, State, AtFrameStart, Ended, InDataFrame, RouteTable, Judged, Verdict, admit, answer_text, refuse, undecided, refusal_text, reply_text, is_accepted, is_gone_in, number_of, LivedThroughout, heard, is_frame_heard, last_frame, read, cause_of, closing, is_open, leaves_open, moved, phase, plain, topics_left, world, Follows, arrival, is_acceptance, is_of, is_turn, Standing, unless_gone, Answers, Performs, is_link_failure, is_outgoing, refuses, serves, AreAdmitted, AreReplies, is_opened, is_opened_in, Right, entries, Meaning, admits, BetweenTurns, is_reading, after_turn, at_first, Step, by_note, by_order, notes_of, of_notes, standings_after, has_news, is_telling, AreTold, tell, Settled, ShortRings, Ties, nothing, only, served, Entry, HubState, PartingValue, Server, TellingValue, entry_at, entry_of, has_entry, is_gone, is_present, phase_at, ring_at, server, is_silent, Arrives, Makes, has_frames, Advances, Appends, Proceeds, RingsWait, Waits, NetAfter, RoseBy, NoneToTell, news_at, Progress, due_at, progress_after, progress_after_all, progress_at, progress_by, progress_by_steps, progress_obeys, standings_at, AreAbove, AreRising, IsTable, TakesDue, table_of, TellsBy, tell_at, tell_of, EndsTurn, Offers, finishes, Busy, Memory, Taken, parting_value, at, GivesOctets, LosesLink, Notes, Sends, Agrees, HearsFrames, HearsHead, IsFed, IsRead, ReaderView, reader_view, is_of_orders, KeepsOwed, TellsAll, TellsTo, HoldsAs, IsTold, TellsNext, AreThere, backlog_at, event_for, HearsAt, IntakeView, Kept, RestsAt, SameButReader, Shows, AreSound, is_inner, IsSound, decision_seen, ChangesIntake, IsNew, SameIntakes, intake_at, is_admitted, max_of, AreFew, AreViews, Beginning, EndsWithTurn, ForNotes, ForReplies, Holds, IsBetweenTurns, IsLivedThroughout, IsRight, IsSettled, IsSettledIfTold, IsToldNow, KeptAll, beginning, intake_view, meaning_of, view_by, view_of, with_view, HandsOut, IsKeptThen, Keeps, KeepsOn, KeepsOne, KeepsView, Moment, ServesOrders, TakesIn, moment, with_net, IsAsked, IsDrained, IsTaken, Ready, But, Every, Grows, HasFrames, NotesTurns, OfNotes, OffersIfThere, Onward, RisesBeyond, Running, StaysOrLeaves, Steps, StepsWith, Takes, is_kept_at, weight_at, weight_below, weight_of, EndsEvents, MakesRun, MakesTurn, MakesTurns, TakesEvent, WhereKept, AreBetween, AreTurns, FailsAs, FailsBeyondLinks, GrowsBy, NotesRun, Passes, PassesBetween, PassesTurn, PassesTurns, RunFailsAs, Runs, ending, goes_on, is_between, Decision, More, Refuse, Intake, Intakes, Turned, Ran, is_ticking, is_tick, is_uncounted, Timely, Does, CountsBeside, CountsBy, SameCounts, counts_at, Ticks, is_of_tick, no_entry, IsTicked, IsConfig}
 unfoldable pub use Rattle.loop_runner.specs.All.{IsDistinct, reads}
 pub use Rattle.ws_kinds.proofs.Facts.{and_left, and_right, and_true, by_cases, clash, equal_is as is_same, same_number as of_here, other_number as of_other, or_left, or_right, stays_live}
 pub use Rattle.wire_meaning.proofs.All.{reads_told}

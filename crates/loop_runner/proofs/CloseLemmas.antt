@@ -130,18 +130,18 @@ counts_taken p h k x c there = ⊎_elim
 module _ {S : Type 0} (b : Beginning S) (parting : PartingValue) (intakes : Intakes) (hub : HubState) (s d : Server) (t : Option (List NoteValue)) (now next : S) (views : ℕ → IntakeView) (given : EventValue)
     (out : HandsOut parting intakes hub s) (noted : IsNoted s.told (note.closed parting.conn parting.code parting.reason) t) where
   pub keep_closed : given ≡ event_for parting.conn (views parting.conn) (event.closed parting.code parting.reason) → next ≡ b.after now given
-      → ServesOrders parting.conn (b.said next given) (server s.hub s.net t) d → IsTable (table_of d.hub) → KeptAll b (server hub s.net s.told) now views None → KeptAll b d next views None
+      → ServesOrders b.admits parting.conn (b.said next given) (server s.hub s.net t) d → IsTable (table_of d.hub) → KeptAll b (server hub s.net s.told) now views None → KeptAll b d next views None
   keep_closed event_is state served whole =
       let conn = parting.conn in
       let n : NoteValue = note.closed parting.conn parting.code parting.reason in
       let a : Server = server hub s.net s.told in
       let m : Server = server s.hub s.net t in
       keep_on b a d now next views views None None
-      (grows_then a s d (grows_hub hub s.hub s.net s.told) (grows_then s m d (grows_noted n s.hub s.hub s.net s.told t noted) (grows_served conn (b.said next given) m d served)))
-      (opens_then a m d (grows_served conn (b.said next given) m d served) (opens_none (n ∷ []) a m (told_one s.told t n noted) (λ c. refl)) (opens_served conn (b.said next given) m d served))
+      (grows_then a s d (grows_hub hub s.hub s.net s.told) (grows_then s m d (grows_noted n s.hub s.hub s.net s.told t noted) (grows_served b.admits conn (b.said next given) m d served)))
+      (opens_then a m d (grows_served b.admits conn (b.said next given) m d served) (opens_none (n ∷ []) a m (told_one s.told t n noted) (λ c. refl)) (opens_served b.admits conn (b.said next given) m d served))
       (λ replies ns ms was tells told agree few x.
       let r = meaning_of b replies in
-      let earlier = (grows_served conn (b.said next given) m d served).told ms told in
+      let earlier = (grows_served b.admits conn (b.said next given) m d served).told ms told in
       let told_m : t ≡ Some (ns ++ n ∷ []) = told_is ns (n ∷ []) earlier.0 s.told t (told_one s.told t n noted) was earlier.2 in
       let first = sound_closed r b.config ns conn parting.code parting.reason a m x.kept.agrees out.taken.0 (phase_taken parting hub s.hub out.taken out.pairs) x.sound in
       let accepted : is_accepted conn (ns ++ n ∷ []) ≡ true = accepted_more conn ns (n ∷ []) (due_accepted r ns a x.kept.agrees conn (parting.code, parting.reason) out.taken.0) in

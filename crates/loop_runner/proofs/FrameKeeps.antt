@@ -21,15 +21,15 @@ module _ {S : Type 0} (r : run.Server S) (f : ConfigValue) where
       (sound_proceed r f (n ∷ []) [] ns a b x (shows_sound r f ns a sound agrees) all refl sound).0
 
   -- a message of an open connection, and then its orders
-  sound_message : (ns ms : List NoteValue) (c : ℕ) (kind : Kind) (body : List ℕ) (a b : Server) (t : Option (List NoteValue)) (orders : List OrderValue) → Agrees (world r ns) ns a → phase_at a.hub c ≡ Some Open
-      → IsNoted a.told (note.message c kind body) t → ServesOrders c orders (server a.hub a.net t) b → a.told ≡ Some ns → b.told ≡ Some ms → AreSound r f ns → AreSound r f ms
-  sound_message ns ms c kind body a b t orders agrees at noted serves was told sound =
+  sound_message : (admits : List ℕ → Bool) (ns ms : List NoteValue) (c : ℕ) (kind : Kind) (body : List ℕ) (a b : Server) (t : Option (List NoteValue)) (orders : List OrderValue) → Agrees (world r ns) ns a → phase_at a.hub c ≡ Some Open
+      → IsNoted a.told (note.message c kind body) t → ServesOrders admits c orders (server a.hub a.net t) b → a.told ≡ Some ns → b.told ≡ Some ms → AreSound r f ns → AreSound r f ms
+  sound_message admits ns ms c kind body a b t orders agrees at noted serves was told sound =
       let n = note.message c kind body in
       let mid = server a.hub a.net t in
       let shows = shows_sound r f ns a sound agrees in
       let one = sound_one r f ns n (sound_shown r f ns n c Open a shows refl refl at refl) sound in
       let goes : Shows (ns ++ n ∷ []) mid = shows_told ns n a mid (λ d. refl) (λ d. refl) shows in
-      let earlier = (grows_served c orders mid b serves).told ms told in
+      let earlier = (grows_served admits c orders mid b serves).told ms told in
       let here : t ≡ Some (ns ++ n ∷ []) = told_is ns (n ∷ []) earlier.0 a.told t (told_one a.told t n noted) was earlier.2 in
       let there : (progress_at a.hub c).phase ≡ Some Open = sym (phase_read a.hub c (ap is_reading at)) ∙ at in
       (sound_serves r f _ _ c 0 orders (ns ++ n ∷ []) ms mid b serves here told goes ((goes c).accepted (ap is_some there)) one).0
@@ -188,25 +188,25 @@ module _ {S : Type 0} (b : Beginning S) (c route : ℕ) (param : List ℕ) where
     -- a message was given, and its orders were served
     pub keep_message : (kind : Kind) (body : List ℕ) (next : S) (d : Server) (t : Option (List NoteValue)) (given : EventValue) → given ≡ record { conn = c; route = route; param = param; what = event.message kind body }
         → phase_at a.hub c ≡ Some Open → IsRead before (wire.message kind body ∷ []) after → IsNoted a.told (note.message c kind body) t → next ≡ b.after now given
-        → ServesOrders c (b.said next given) (server a.hub a.net t) d → IsTable (table_of d.hub)
+        → ServesOrders b.admits c (b.said next given) (server a.hub a.net t) d → IsTable (table_of d.hub)
         → KeepsOne b c (Some c) (Some c) (view_by before route param) (view_by after route param) a now d next
     keep_message kind body next d t given event_is at reads noted state serves table = record {
       kept = λ views is.
           let n = note.message c kind body in
           let mid = server a.hub a.net t in
           let later = with_view c (view_by after route param) views in
-          keep_on b a d now next views later (Some c) (Some c) (grows_then a mid d (grows_noted n a.hub a.hub a.net a.told t noted) (grows_served c (b.said next given) mid d serves))
-          (opens_then a mid d (grows_served c (b.said next given) mid d serves) (opens_none (n ∷ []) a mid (told_one a.told t n noted) (λ k. refl)) (opens_served c (b.said next given) mid d serves))
+          keep_on b a d now next views later (Some c) (Some c) (grows_then a mid d (grows_noted n a.hub a.hub a.net a.told t noted) (grows_served b.admits c (b.said next given) mid d serves))
+          (opens_then a mid d (grows_served b.admits c (b.said next given) mid d serves) (opens_none (n ∷ []) a mid (told_one a.told t n noted) (λ k. refl)) (opens_served b.admits c (b.said next given) mid d serves))
           (λ replies ns ms was tells told agree few h.
           let r = meaning_of b replies in
           let k = message_given r b.config b.table ns ms c kind body given a mid d now next views later h.kept (agrees_told_phase (world r ns) ns a h.kept.agrees c Open refl at)
           (view_read c route param before after views is (wire.message kind body ∷ []) reads) (same_but c route param before after views is) refl refl (told_one a.told t n noted)
           (event_is ∙ ap (λ (z : IntakeView). event_for c z (event.message kind body)) (sym is)) state serves told h.whole table in
-          let noted_m = (grows_served c (b.said next given) mid d serves).told ms told in
+          let noted_m = (grows_served b.admits c (b.said next given) mid d serves).told ms told in
           let told_m : t ≡ Some (ns ++ n ∷ []) = told_is ns (n ∷ []) noted_m.0 a.told t (told_one a.told t n noted) was noted_m.2 in
           record {
             kept = k.1;
-            sound = sound_message r b.config ns ms c kind body a d t (b.said next given) h.kept.agrees at noted serves was told h.sound;
+            sound = sound_message r b.config b.admits ns ms c kind body a d t (b.said next given) h.kept.agrees at noted serves was told h.sound;
             whole = table;
             told = served_told b replies (ns ++ n ∷ []) ms c (b.said next given) mid d serves told_m told (told_call r ns (n ∷ []) a.hub a.hub refl refl (λ _ k. refl) h.told);
             ticked = served_ticked b replies (ns ++ n ∷ []) ms c (b.said next given) mid d serves told_m told (ticked_call r ns (n ∷ []) a.hub a.hub refl refl (λ _ k there. (there, refl)) refl h.ticked);

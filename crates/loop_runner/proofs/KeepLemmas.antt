@@ -113,13 +113,13 @@ module _ {S : Type 0} (b : Beginning S) where
       }))
 
   -- the orders of an event were served, behind these notes
-  pub served_told : (replies : ℕ → List ℕ) (front ms : List NoteValue) (conn : ℕ) (orders : List OrderValue) (m d : Server) → ServesOrders conn orders m d → m.told ≡ Some front → d.told ≡ Some ms
+  pub served_told : (replies : ℕ → List ℕ) (front ms : List NoteValue) (conn : ℕ) (orders : List OrderValue) (m d : Server) → ServesOrders b.admits conn orders m d → m.told ≡ Some front → d.told ≡ Some ms
       → IsTold (meaning_of b replies) front m.hub → IsTold (meaning_of b replies) ms d.hub
   served_told replies front ms conn orders m d x was told t =
       let is : front ++ notes_of x.steps ≡ ms = same_notes (front ++ notes_of x.steps) ms (sym (told_is front (notes_of x.steps) ms m.told d.told (x.does (λ _. [])).told was told) ∙ told) in
       subst (λ (z : List NoteValue). IsTold (meaning_of b replies) z d.hub) is (told_orders (meaning_of b replies) front _ _ conn 0 orders m d x t)
 
-  pub served_ticked : (replies : ℕ → List ℕ) (front ms : List NoteValue) (conn : ℕ) (orders : List OrderValue) (m d : Server) → ServesOrders conn orders m d → m.told ≡ Some front → d.told ≡ Some ms
+  pub served_ticked : (replies : ℕ → List ℕ) (front ms : List NoteValue) (conn : ℕ) (orders : List OrderValue) (m d : Server) → ServesOrders b.admits conn orders m d → m.told ≡ Some front → d.told ≡ Some ms
       → IsTicked (meaning_of b replies) front m.hub → IsTicked (meaning_of b replies) ms d.hub
   served_ticked replies front ms conn orders m d x was told t =
       let is : front ++ notes_of x.steps ≡ ms = same_notes (front ++ notes_of x.steps) ms (sym (told_is front (notes_of x.steps) ms m.told d.told (x.does (λ _. [])).told was told) ∙ told) in
@@ -147,14 +147,14 @@ module _ {S : Type 0} (b : Beginning S) where
 
 -- ---- within a turn
 
-pub keeps_then : {H : Type 0} {handler : HandlerMeaning H} (table : RouteTable) (r s t : Intakes) (a b d : Moment handler) → Keeps table r s a b → Keeps table s t b d → Keeps table r t a d
-keeps_then table r s t a b d x y start config views are k = let now = x start config views are k in y start config now.0 now.1 now.2
+pub keeps_then : {H : Type 0} {handler : HandlerMeaning H} (admits : List ℕ → Bool) (table : RouteTable) (r s t : Intakes) (a b d : Moment handler) → Keeps admits table r s a b → Keeps admits table s t b d → Keeps admits table r t a d
+keeps_then admits table r s t a b d x y start config views are k = let now = x start config views are k in y start config now.0 now.1 now.2
 
-pub keeps_on_then : {H : Type 0} {handler : HandlerMeaning H} (r s t : Intakes) (a b d : Moment handler) → KeepsOn r s a b → KeepsOn s t b d → KeepsOn r t a d
-keeps_on_then r s t a b d x y = record {
+pub keeps_on_then : {H : Type 0} {handler : HandlerMeaning H} (admits : List ℕ → Bool) (r s t : Intakes) (a b d : Moment handler) → KeepsOn admits r s a b → KeepsOn admits s t b d → KeepsOn admits r t a d
+keeps_on_then admits r s t a b d x y = record {
   running = y.running;
   steps = steps_then Every a.server b.server d.server x.steps y.steps;
-  kept = λ table. keeps_then table r s t a b d (x.kept table) (y.kept table);
+  kept = λ table. keeps_then admits table r s t a b d (x.kept table) (y.kept table);
 }
 
 -- where the net does not tell, nothing is said

@@ -1,5 +1,5 @@
 -- Notes by which nobody is opened.
-use Rattle.loop_runner.proofs.Below.{◌≡◌, ℕ, List, [], ◌∷◌, ◌++◌, Some, Bool, true, false, ◌||◌, refl, sym, ap, ◌∙◌, append-nil, list_all, NoteValue, OrderValue, AreNoted, is_outgoing, is_opened, is_opened_in, every_topic, notes_of, none_follow, list_any-append, Server, Proceeds, standings_at, EndsTurn, finishes, clash, is_of_orders, told_is, orders_notes, outgoing_of_orders, Grows, ServesOrders, Offers}
+use Rattle.loop_runner.proofs.Below.{◌≡◌, ℕ, List, [], ◌∷◌, ◌++◌, Some, Bool, true, false, ◌||◌, refl, sym, ap, ◌∙◌, append-nil, list_all, NoteValue, OrderValue, AreNoted, is_outgoing, is_opened, is_opened_in, notes_of, none_follow, list_any-append, Server, Proceeds, standings_at, EndsTurn, finishes, clash, is_of_orders, told_is, orders_notes, outgoing_of_orders, Grows, ServesOrders, Offers}
 use Rattle.ws_kinds.specs.NoteValue as note
 
 -- who is opened by the later notes was opened by the earlier ones
@@ -46,12 +46,12 @@ pub opens_sent : (n : NoteValue) (a d : Server) → Proceeds (n ∷ []) [] a d �
 opens_sent n a d x none = opens_none (n ∷ (x.sending ++ [])) a d x.advances.told
     (λ c. ap (λ (z : Bool). z || is_opened_in c (x.sending ++ [])) (none c) ∙ ap (is_opened_in c) (append-nil x.sending) ∙ outgoing_unopened c x.sending x.outgoing)
 
-pub opens_served : (conn : ℕ) (orders : List OrderValue) (a d : Server) → ServesOrders conn orders a d → OpensNobody a d
-opens_served conn orders a d x =
+pub opens_served : (admits : List ℕ → Bool) (conn : ℕ) (orders : List OrderValue) (a d : Server) → ServesOrders admits conn orders a d → OpensNobody a d
+opens_served admits conn orders a d x =
     let does = x.does (λ _. []) in
     opens_none (notes_of x.steps) a d does.told
     (λ c. none_follow is_of_orders (is_opened c) (orders_unopened c) (notes_of x.steps)
-    (orders_notes is_of_orders a.hub.config every_topic conn outgoing_of_orders (λ i y. refl) orders 0 x.steps (standings_at a.hub) x.performs))
+    (orders_notes is_of_orders a.hub.config admits conn outgoing_of_orders (λ i y. refl) orders 0 x.steps (standings_at a.hub) x.performs))
 
 -- what was sent, and then notes by which nobody is opened
 opens_last : (last : List NoteValue) (a d : Server) → Proceeds [] last a d → ((c : ℕ) → is_opened_in c last ≡ false) → OpensNobody a d

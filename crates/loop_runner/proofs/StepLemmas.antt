@@ -265,8 +265,8 @@ steps_ended a b x app ties table named =
     unaccepting
 
 -- orders that were served
-pub steps_served : (conn : ℕ) (orders : List OrderValue) (a b : Server) → ServesOrders conn orders a b → Ties b → IsTable (table_of b.hub) → b.hub.named ≡ a.hub.named → Steps Every a b
-steps_served conn orders a b x ties table named =
+pub steps_served : (admits : List ℕ → Bool) (conn : ℕ) (orders : List OrderValue) (a b : Server) → ServesOrders admits conn orders a b → Ties b → IsTable (table_of b.hub) → b.hub.named ≡ a.hub.named → Steps Every a b
+steps_served admits conn orders a b x ties table named =
     let does = x.does (λ _. []) in
     let none = performs_start _ _ conn 0 _ orders x.steps x.performs in
     steps_by Every x.steps a b

@@ -31,18 +31,18 @@ nothing_to_tell h count c above =
 -- ---- a Told event is given
 
 module _ {S : Type 0} (b : Beginning S) (after conn dropped : ℕ) (drained : Bool) (a m d : Server) (now next : S) (views : ℕ → IntakeView) (given : EventValue) (x : TellsNext after conn dropped drained a m) where
-  pub keep_told : given ≡ event_for conn (views conn) (event.told dropped drained) → next ≡ b.after now given → ServesOrders conn (b.said next given) m d → IsTable (table_of d.hub)
+  pub keep_told : given ≡ event_for conn (views conn) (event.told dropped drained) → next ≡ b.after now given → ServesOrders b.admits conn (b.said next given) m d → IsTable (table_of d.hub)
       → KeptAll b a now views None → KeptAll b d next views None
   keep_told event_is state served whole =
       let n : NoteValue = note.told conn dropped drained in
       let orders = b.said next given in
       let opened = and_left (is_open (progress_at a.hub conn).phase) (has_news (tell_at a.hub conn)) x.next.news in
       keep_on b a d now next views views None None
-      (grows_then a m d (grows_makes (n ∷ []) a m x.makes) (grows_served conn orders m d served))
-      (opens_then a m d (grows_served conn orders m d served) (opens_none (n ∷ []) a m x.makes.advances.told (λ c. refl)) (opens_served conn orders m d served))
+      (grows_then a m d (grows_makes (n ∷ []) a m x.makes) (grows_served b.admits conn orders m d served))
+      (opens_then a m d (grows_served b.admits conn orders m d served) (opens_none (n ∷ []) a m x.makes.advances.told (λ c. refl)) (opens_served b.admits conn orders m d served))
       (λ replies ns ms was tells told agree few h.
       let r = meaning_of b replies in
-      let earlier = (grows_served conn orders m d served).told ms told in
+      let earlier = (grows_served b.admits conn orders m d served).told ms told in
       let told_m : m.told ≡ Some (ns ++ n ∷ []) = told_is ns (n ∷ []) earlier.0 a.told m.told x.makes.advances.told was earlier.2 in
       let now_open : phase r ns conn ≡ Some Open =
       open_is (phase r ns conn) (and_left (is_open (phase r ns conn)) (has_news (tell r ns conn)) (sym (news_is r ns a h.kept.agrees h.told.tellings conn) ∙ x.next.news)) in

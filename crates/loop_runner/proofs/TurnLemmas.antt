@@ -104,7 +104,7 @@ rose_after : (a b d : ℕ) → CountsFault a b → b ≤ d → Rose a d
 rose_after a b d (first, inl more) least = inl (omega arith)
 rose_after a b d (first, inr is) least = ⊎_elim (λ (e : d ≡ 2 ^ 64 - 1). inr e) (λ (ne : d ≡ 2 ^ 64 - 1 → ⊥). inl (omega (arith, ne))) (cases_eq d (2 ^ 64 - 1))
 
-rose_before : (a b d : ℕ) → a ≤ b → Rose b d → Rose a d
+pub rose_before : (a b d : ℕ) → a ≤ b → Rose b d → Rose a d
 rose_before a b d least (inl more) = inl (omega arith)
 rose_before a b d least (inr is) = inr is
 

@@ -28,8 +28,9 @@ pub use Rattle.frame_reader.specs.declared.reader.Reader.{Reader}
 pub use Rattle.frame_reader.specs.declared.reader.State.{State}
 pub use Rattle.frame_reader.specs.declared.reader.State.TheVariants.{AtFrameStart, Ended, InDataFrame}
 pub use Rattle.route_table.specs.All.{RouteTable}
+pub use Rattle.topic_guard.specs.Admits.{admits}
 pub use Rattle.upgrade_head.specs.All.{Judged, Verdict, admit, answer_text, refuse, undecided, refusal_text, reply_text}
-pub use Rattle.run_meaning.specs.All.{is_accepted, is_gone_in, number_of, LivedThroughout, heard, is_frame_heard, last_frame, read, cause_of, closing, is_open, leaves_open, moved, phase, plain, topics_left, world, Follows, arrival, is_acceptance, is_of, is_turn, Standing, unless_gone, Answers, Performs, is_link_failure, is_outgoing, refuses, serves, AreAdmitted, AreReplies, is_opened, is_opened_in, Right, entries, Meaning, every_topic, BetweenTurns, is_reading, after_turn, at_first, Step, by_note, by_order, notes_of, of_notes, standings_after, has_news, is_telling, AreTold, tell, is_ticking, is_tick, is_uncounted, Timely}
+pub use Rattle.run_meaning.specs.All.{is_accepted, is_gone_in, number_of, LivedThroughout, heard, is_frame_heard, last_frame, read, cause_of, closing, is_open, leaves_open, moved, phase, plain, topics_left, world, Follows, arrival, is_acceptance, is_of, is_turn, Standing, unless_gone, Answers, Performs, is_link_failure, is_outgoing, refuses, serves, AreAdmitted, AreReplies, is_opened, is_opened_in, Right, entries, Meaning, BetweenTurns, is_reading, after_turn, at_first, Step, by_note, by_order, notes_of, of_notes, standings_after, has_news, is_telling, AreTold, tell, is_ticking, is_tick, is_uncounted, Timely}
 pub use Rattle.hub_lines.specs.All.{Settled, ShortRings, Ties, nothing, only, served, Entry, HubState, PartingValue, Server, TellingValue, entry_at, entry_of, has_entry, is_gone, is_present, phase_at, ring_at, server, is_silent, no_entry}
 pub use Rattle.hub_notes.specs.All.{Arrives, Makes, has_frames, Advances, Appends, Proceeds, RingsWait, Waits, NetAfter, RoseBy, NoneToTell, news_at, Progress, due_at, progress_after, progress_after_all, progress_at, progress_by, progress_by_steps, progress_obeys, standings_at, AreAbove, AreRising, IsTable, TakesDue, table_of, TellsBy, tell_at, tell_of, EndsTurn, Offers, finishes, Does, CountsBeside, CountsBy, SameCounts, counts_at, Ticks, is_of_tick}
 pub use Rattle.hub_notes.specs.declared.arrival.Arrival.TheVariants.{Busy, Memory, Taken}

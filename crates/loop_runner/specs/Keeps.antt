@@ -1,5 +1,5 @@
 -- What each step of the loop keeps: the server is as its notes say, for all texts of replies that agree with the judging.
-use Rattle.std.specs.Prelude.{◌≡◌, ◌<◌, ◌-◌, ◌^◌, ℕ, List, [], ◌∷◌, ◌++◌, Option, Some, true, nat_eq, length, if◌then◌else◌}
+use Rattle.std.specs.Prelude.{◌≡◌, ◌<◌, ◌-◌, ◌^◌, ℕ, List, [], ◌∷◌, ◌++◌, Option, Some, Bool, true, nat_eq, length, if◌then◌else◌}
 use Rattle.ws_kinds.specs.declared.handler.Handler.{Ghosts as HandlerMeaning}
 use Rattle.ws_kinds.specs.ConfigValue.{ConfigValue}
 use Rattle.ws_kinds.specs.NoteValue as note
@@ -9,7 +9,7 @@ use Rattle.ws_kinds.specs.OrderValue.{OrderValue}
 use Rattle.route_table.specs.Table.{RouteTable}
 use Rattle.frame_reader.specs.declared.reader.Reader.{Reader}
 use Rattle.run_meaning.specs.Server as run
-use Rattle.run_meaning.specs.Server.{served_by, every_topic}
+use Rattle.run_meaning.specs.Server.{served_by}
 use Rattle.run_meaning.specs.Lines.{plain}
 use Rattle.run_meaning.specs.Replies.{AreAdmitted, AreReplies, HasReplies}
 use Rattle.run_meaning.specs.Settled.{BetweenTurns, IsTurn, Settled}
@@ -53,20 +53,22 @@ with_view conn view views other = if nat_eq other conn then view else views othe
 
 -- ---- what is kept
 
--- what a server began with: the handler's first state and its meaning, the configuration and the routes
+-- what a server began with: the handler's first state and its meaning, the topics that may be subscribed to, the configuration and
+-- the routes
 pub record Beginning (State : Type 0) : Type 0 where
   pub start : State
   pub after : State → EventValue → State
   pub said : State → EventValue → List OrderValue
+  pub admits : List ℕ → Bool
   pub config : ConfigValue
   pub table : RouteTable
 
-abbrev pub beginning : {H : Type 0} → (handler : HandlerMeaning H) → handler.State → ConfigValue → RouteTable → Beginning handler.State
-beginning handler start config table = record { start = start; after = handler.after; said = handler.said; config = config; table = table }
+abbrev pub beginning : {H : Type 0} → (handler : HandlerMeaning H) → (List ℕ → Bool) → handler.State → ConfigValue → RouteTable → Beginning handler.State
+beginning handler admits start config table = record { start = start; after = handler.after; said = handler.said; admits = admits; config = config; table = table }
 
 -- what its notes are read with, for these texts of replies
 abbrev pub meaning_of : {State : Type 0} → Beginning State → (ℕ → List ℕ) → run.Server State
-meaning_of b replies = served_by b.start b.after b.said every_topic replies
+meaning_of b replies = served_by b.start b.after b.said b.admits replies
 
 -- what holds for one meaning: it is kept, each note is sound, the hub's table is one, and what the handler was told is right, and who
 -- was pinged and ended by ticks

@@ -31,10 +31,12 @@ Every conn = ⊤
 abbrev pub But : ℕ → ℕ → Type 0
 But conn other = other ≢ conn
 
--- The notes only grow, and so does what was read of each connection, where net and watch tell; the net's schedule stays.
+-- The notes only grow, and so does what was read of each connection, where net and watch tell; the net's schedule and its
+-- port stay.
 pub record Grows (old new : Server) : Type 0 where
   pub tells : new.net.tells ≡ old.net.tells
   pub schedule : new.net.schedule ≡ old.net.schedule
+  pub port : new.net.port ≡ old.net.port
   pub told : (after : List NoteValue) → new.told ≡ Some after → (notes : List NoteValue) × (later : List NoteValue) × (old.told ≡ Some notes) × (after ≡ notes ++ later)
   pub given : old.net.tells ≡ true → (conn : ℕ) → (behind : List ℕ) × (new.net.given conn ≡ old.net.given conn ++ behind)
 

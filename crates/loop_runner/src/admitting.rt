@@ -13,6 +13,7 @@ ghost use Rattle.hub_notes.specs.Answers.{has_frames};
 ghost use Rattle.hub_notes.specs.Table.{IsTable, table_of};
 ghost use Rattle.hub_core.specs.At.{at};
 ghost use Rattle.run_kept.specs.Giving.{event_for};
+ghost use Rattle.topic_guard.specs.Admits.{admits};
 ghost use Rattle.loop_runner.specs.Heads.{decision_seen};
 ghost use Rattle.loop_runner.specs.Steps.{But, Steps, Takes};
 ghost use Rattle.loop_runner.specs.Keeps.{intake_view};
@@ -24,6 +25,7 @@ use crate::intakes::Intake;
 use hub_core::Hub;
 use link_trait::{Net, Outside};
 use route_table::Routes;
+use topic_guard::TopicGuard;
 use upgrade_head::{Head, judge, refusal, reply};
 use ws_kinds::{Conn, Event, Handler, Name, Watch, What};
 
@@ -58,6 +60,7 @@ pub(crate) fn judge_head<N: Net, W: Watch, H: Handler>(
     routes: &Routes,
     out: &mut Outside<N, W>,
     handler: &mut H,
+    guard: &TopicGuard,
     conn: Conn,
 )
     requires phase { phase_at hub.old conn.0 ≡ Some phase.Head }
@@ -66,13 +69,13 @@ pub(crate) fn judge_head<N: Net, W: Watch, H: Handler>(
     requires ties { Ties (at N.Net W.Watch hub.old out.old) }
     ensures takes { Takes conn.0 intake.old.reader intake.new.reader (at N.Net W.Watch hub.old out.old) (at N.Net W.Watch hub.new out.new) }
     ensures kept { let seen = moment N.Net W.Watch H.Handler in
-        KeepsView routes.now conn.0 (Some conn.0) None (intake_view intake.old) (intake_view intake.new) (seen hub.old out.old handler.old) (seen hub.new out.new handler.new) }
+        KeepsView (admits guard.now.rule) routes.now conn.0 (Some conn.0) None (intake_view intake.old) (intake_view intake.new) (seen hub.old out.old handler.old) (seen hub.new out.new handler.new) }
 {
     match decide(intake, routes) {
         Decision::More => {}
         Decision::Refuse(status) => hub.refuse(out, conn, status, &refusal(status)),
         Decision::Admit(admission) => {
-            admit(hub, intake, routes, out, handler, conn, admission);
+            admit(hub, intake, routes, out, handler, guard, conn, admission);
         }
     }
 }
@@ -131,6 +134,7 @@ fn admit<N: Net, W: Watch, H: Handler>(
     routes: &Routes,
     out: &mut Outside<N, W>,
     handler: &mut H,
+    guard: &TopicGuard,
     conn: Conn,
     admission: Admission,
 )
@@ -143,19 +147,20 @@ fn admit<N: Net, W: Watch, H: Handler>(
     requires ties { Ties (at N.Net W.Watch hub.old out.old) }
     ensures takes { Takes conn.0 intake.old.reader intake.new.reader (at N.Net W.Watch hub.old out.old) (at N.Net W.Watch hub.new out.new) }
     ensures kept { let seen = moment N.Net W.Watch H.Handler in
-        KeepsView routes.now conn.0 (Some conn.0) None (intake_view intake.old) (intake_view intake.new) (seen hub.old out.old handler.old) (seen hub.new out.new handler.new) }
+        KeepsView (admits guard.now.rule) routes.now conn.0 (Some conn.0) None (intake_view intake.old) (intake_view intake.new) (seen hub.old out.old handler.old) (seen hub.new out.new handler.new) }
 {
     let reply = reply(
         &admission.accept,
         named(routes, admission.route, admission.protocol),
     );
     enter(intake, admission.end, admission.route, admission.param);
-    open(hub, intake, out, handler, conn, &reply);
+    open(hub, intake, out, handler, guard, conn, &reply);
     read_frames(
         hub,
         &mut intake.reader,
         out,
         handler,
+        guard,
         conn,
         intake.route,
         intake.param.as_slice(),
@@ -183,6 +188,7 @@ fn open<N: Net, W: Watch, H: Handler>(
     intake: &Intake,
     out: &mut Outside<N, W>,
     handler: &mut H,
+    guard: &TopicGuard,
     conn: Conn,
     reply: &[u8],
 )
@@ -191,7 +197,7 @@ fn open<N: Net, W: Watch, H: Handler>(
     requires short { length reply.now ≤ 256 }
     requires ties { Ties (at N.Net W.Watch hub.old out.old) }
     ensures opens { let seen = moment N.Net W.Watch H.Handler in
-        Opens reply.now (event_for conn.0 (intake_view intake.now) event.opened) (seen hub.old out.old handler.old) (seen hub.new out.new handler.new) }
+        Opens (admits guard.now.rule) reply.now (event_for conn.0 (intake_view intake.now) event.opened) (seen hub.old out.old handler.old) (seen hub.new out.new handler.new) }
     ensures steps { Steps (But conn.0) (at N.Net W.Watch hub.old out.old) (at N.Net W.Watch hub.new out.new) }
     ensures due { is_reading (phase_at hub.new conn.0) ≡ true → (N.state out.new.net).due conn.0 ≡ (N.state out.old.net).due conn.0 }
     ensures entered { is_reading (phase_at hub.new conn.0) ≡ true → has_frames (phase_at hub.new conn.0) ≡ true }
@@ -207,5 +213,5 @@ fn open<N: Net, W: Watch, H: Handler>(
         param,
         what,
     };
-    give(hub, out, handler, event);
+    give(hub, out, handler, guard, event);
 }

@@ -9,6 +9,7 @@ ghost use Rattle.hub_notes.specs.Table.{IsTable, table_of};
 ghost use Rattle.hub_table.specs.Parting.{parting_value};
 ghost use Rattle.hub_core.specs.At.{at};
 ghost use Rattle.run_kept.specs.Kept.{IntakeView};
+ghost use Rattle.topic_guard.specs.Admits.{admits};
 ghost use Rattle.loop_runner.specs.Intakes.{max_of, intake_at, is_admitted};
 ghost use Rattle.loop_runner.specs.Steps.{Every, Steps, Running, is_kept_at, weight_below};
 ghost use Rattle.loop_runner.specs.Keeps.{AreViews};
@@ -18,6 +19,7 @@ use crate::giving::give;
 use crate::intakes::Intakes;
 use hub_core::{Hub, Parting};
 use link_trait::{Net, Outside};
+use topic_guard::TopicGuard;
 use ws_kinds::{Event, Handler, Note, Watch, What};
 
 /// Gives all Closed events that are due, that of the least connection first, until none is due. Then each connection that is
@@ -27,13 +29,14 @@ pub(crate) fn close_all<N: Net, W: Watch, H: Handler>(
     intakes: &mut Intakes,
     out: &mut Outside<N, W>,
     handler: &mut H,
+    guard: &TopicGuard,
 )
     requires running { Running Every intakes.old (at N.Net W.Watch hub.old out.old) }
     ensures none { (conn : ℕ) → due_at hub.new conn ≡ None }
     ensures entries { (conn : ℕ) → has_entry hub.new.entries conn ≡ is_admitted intakes.new conn }
-    ensures keeps { let seen = moment N.Net W.Watch H.Handler in KeepsOn intakes.old intakes.new (seen hub.old out.old handler.old) (seen hub.new out.new handler.new) }
+    ensures keeps { let seen = moment N.Net W.Watch H.Handler in KeepsOn (admits guard.now.rule) intakes.old intakes.new (seen hub.old out.old handler.old) (seen hub.new out.new handler.new) }
 {
-    close_due(hub, intakes, out, handler);
+    close_due(hub, intakes, out, handler, guard);
     tidy(hub, intakes);
 }
 
@@ -43,13 +46,14 @@ fn close_due<N: Net, W: Watch, H: Handler>(
     intakes: &mut Intakes,
     out: &mut Outside<N, W>,
     handler: &mut H,
+    guard: &TopicGuard,
 )
     requires running { Running Every intakes.old (at N.Net W.Watch hub.old out.old) }
     ensures none { (conn : ℕ) → due_at hub.new conn ≡ None }
-    ensures keeps { let seen = moment N.Net W.Watch H.Handler in KeepsOn intakes.old intakes.new (seen hub.old out.old handler.old) (seen hub.new out.new handler.new) }
+    ensures keeps { let seen = moment N.Net W.Watch H.Handler in KeepsOn (admits guard.now.rule) intakes.old intakes.new (seen hub.old out.old handler.old) (seen hub.new out.new handler.new) }
 {
     'closed: loop {
-        if !close_next(hub, intakes, out, handler) {
+        if !close_next(hub, intakes, out, handler, guard) {
             return;
         }
     }
@@ -61,16 +65,17 @@ fn close_next<N: Net, W: Watch, H: Handler>(
     intakes: &mut Intakes,
     out: &mut Outside<N, W>,
     handler: &mut H,
+    guard: &TopicGuard,
 ) -> bool
     requires running { Running Every intakes.old (at N.Net W.Watch hub.old out.old) }
     ensures none { result ≡ false → (conn : ℕ) → due_at hub.new conn ≡ None }
     ensures fewer { result ≡ true → weight_below (suc hub.new.named) hub.new < weight_below (suc hub.old.named) hub.old }
-    ensures keeps { let seen = moment N.Net W.Watch H.Handler in KeepsOn intakes.old intakes.new (seen hub.old out.old handler.old) (seen hub.new out.new handler.new) }
+    ensures keeps { let seen = moment N.Net W.Watch H.Handler in KeepsOn (admits guard.now.rule) intakes.old intakes.new (seen hub.old out.old handler.old) (seen hub.new out.new handler.new) }
 {
     match hub.next_closed() {
         None => false,
         Some(parting) => {
-            close(hub, intakes, out, handler, &parting);
+            close(hub, intakes, out, handler, guard, &parting);
             true
         }
     }
@@ -82,6 +87,7 @@ fn close<N: Net, W: Watch, H: Handler>(
     intakes: &mut Intakes,
     out: &mut Outside<N, W>,
     handler: &mut H,
+    guard: &TopicGuard,
     parting: &Parting,
 )
     requires running { Running Every intakes.old (at N.Net W.Watch hub.old out.old) }
@@ -89,9 +95,9 @@ fn close<N: Net, W: Watch, H: Handler>(
     ensures steps { Steps Every (at N.Net W.Watch hub.old out.old) (at N.Net W.Watch hub.new out.new) }
     ensures kept { let seen = moment N.Net W.Watch H.Handler in
         (before : HubState) → HandsOut (parting_value parting.now) intakes.old before (at N.Net W.Watch hub.old out.old) → (table : RouteTable) →
-        Keeps table intakes.old intakes.new (with_hub before (seen hub.old out.old handler.old)) (seen hub.new out.new handler.new) }
+        Keeps (admits guard.now.rule) table intakes.old intakes.new (with_hub before (seen hub.old out.old handler.old)) (seen hub.new out.new handler.new) }
 {
-    give_closed(hub, intakes, out, handler, parting);
+    give_closed(hub, intakes, out, handler, guard, parting);
     if hub.phase(parting.conn).is_none() {
         intakes.shut(parting.conn);
     }
@@ -103,13 +109,14 @@ fn give_closed<N: Net, W: Watch, H: Handler>(
     intakes: &Intakes,
     out: &mut Outside<N, W>,
     handler: &mut H,
+    guard: &TopicGuard,
     parting: &Parting,
 )
     requires ties { Ties (at N.Net W.Watch hub.old out.old) }
     ensures steps { Steps Every (at N.Net W.Watch hub.old out.old) (at N.Net W.Watch hub.new out.new) }
     ensures kept { let seen = moment N.Net W.Watch H.Handler in
         (before : HubState) → HandsOut (parting_value parting.now) intakes.now before (at N.Net W.Watch hub.old out.old) → (table : RouteTable) →
-        Keeps table intakes.now intakes.now (with_hub before (seen hub.old out.old handler.old)) (seen hub.new out.new handler.new) }
+        Keeps (admits guard.now.rule) table intakes.now intakes.now (with_hub before (seen hub.old out.old handler.old)) (seen hub.new out.new handler.new) }
 {
     let conn = parting.conn;
     let code = parting.code;
@@ -122,7 +129,7 @@ fn give_closed<N: Net, W: Watch, H: Handler>(
             param: intake.param.as_slice(),
             what: What::Closed { code, reason },
         };
-        give(hub, out, handler, event);
+        give(hub, out, handler, guard, event);
     }
 }
 

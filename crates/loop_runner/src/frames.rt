@@ -1,6 +1,6 @@
 //! The frames of a connection in phase Open or Leaving.
 
-ghost use Rattle.std.specs.Prelude.{◌≡◌, ◌<◌, ℕ, List, [], true, false, length, Some, None, if◌then◌else◌};
+ghost use Rattle.std.specs.Prelude.{◌≡◌, ◌<◌, ℕ, List, [], Bool, true, false, length, Some, None, if◌then◌else◌};
 ghost use Rattle.ws_kinds.specs.NoteValue as note;
 ghost use Rattle.ws_kinds.specs.EventValue as event;
 ghost use Rattle.route_table.specs.Table.{RouteTable};
@@ -12,6 +12,7 @@ ghost use Rattle.hub_lines.specs.Calls.{Ties};
 ghost use Rattle.hub_notes.specs.Table.{IsTable, table_of};
 ghost use Rattle.hub_core.specs.At.{at};
 ghost use Rattle.run_laws.specs.Readers.{ReaderView, IsRead};
+ghost use Rattle.topic_guard.specs.Admits.{admits};
 ghost use Rattle.loop_runner.specs.Events.{AreSound};
 ghost use Rattle.loop_runner.specs.Ready.{IsTaken};
 ghost use Rattle.loop_runner.specs.Steps.{Every, Steps, HasFrames};
@@ -22,6 +23,7 @@ use crate::giving::give;
 use frame_reader::{Reader, Step};
 use hub_core::Hub;
 use link_trait::{Net, Outside};
+use topic_guard::TopicGuard;
 use ws_kinds::{Conn, Event, Handler, Kind, Note, Phase, Watch, What};
 
 /// Takes what a connection's octets tell, as long as they tell more and it is in phase Open or Leaving. The connection was
@@ -31,6 +33,7 @@ pub(crate) fn read_frames<N: Net, W: Watch, H: Handler>(
     reader: &mut Reader,
     out: &mut Outside<N, W>,
     handler: &mut H,
+    guard: &TopicGuard,
     conn: Conn,
     route: u8,
     param: &[u8],
@@ -41,10 +44,11 @@ pub(crate) fn read_frames<N: Net, W: Watch, H: Handler>(
     ensures taken { IsTaken (phase_at hub.new conn.0) reader.new }
     ensures max { max_of reader.new ≡ max_of reader.old }
     ensures kept { let seen = moment N.Net W.Watch H.Handler in (table : RouteTable) →
-        KeepsView table conn.0 (Some conn.0) None (view_of reader.old route param.now) (view_of reader.new route param.now) (seen hub.old out.old handler.old) (seen hub.new out.new handler.new) }
+        KeepsView (admits guard.now.rule) table conn.0 (Some conn.0) None (view_of reader.old route param.now) (view_of reader.new route param.now)
+        (seen hub.old out.old handler.old) (seen hub.new out.new handler.new) }
 {
     'steps: loop {
-        if !read_frame(hub, reader, out, handler, conn, route, param) {
+        if !read_frame(hub, reader, out, handler, guard, conn, route, param) {
             return;
         }
     }
@@ -56,6 +60,7 @@ fn read_frame<N: Net, W: Watch, H: Handler>(
     reader: &mut Reader,
     out: &mut Outside<N, W>,
     handler: &mut H,
+    guard: &TopicGuard,
     conn: Conn,
     route: u8,
     param: &[u8],
@@ -68,10 +73,11 @@ fn read_frame<N: Net, W: Watch, H: Handler>(
     ensures fewer { result ≡ true → length (ahead reader.new []) < length (ahead reader.old []) }
     ensures max { max_of reader.new ≡ max_of reader.old }
     ensures kept { let seen = moment N.Net W.Watch H.Handler in let to = if result then Some conn.0 else None in (table : RouteTable) →
-        KeepsView table conn.0 (Some conn.0) to (view_of reader.old route param.now) (view_of reader.new route param.now) (seen hub.old out.old handler.old) (seen hub.new out.new handler.new) }
+        KeepsView (admits guard.now.rule) table conn.0 (Some conn.0) to (view_of reader.old route param.now) (view_of reader.new route param.now)
+        (seen hub.old out.old handler.old) (seen hub.new out.new handler.new) }
 {
     match hub.phase(conn) {
-        Some(Phase::Open) => take_open(hub, out, handler, conn, route, param, reader.next()),
+        Some(Phase::Open) => take_open(hub, out, handler, guard, conn, route, param, reader.next()),
         Some(Phase::Leaving) => take_leaving(hub, out, handler, conn, reader.next()),
         Some(Phase::Head) => false,
         Some(Phase::Ending) => false,
@@ -85,6 +91,7 @@ fn take_open<N: Net, W: Watch, H: Handler>(
     hub: &mut Hub,
     out: &mut Outside<N, W>,
     handler: &mut H,
+    guard: &TopicGuard,
     conn: Conn,
     route: u8,
     param: &[u8],
@@ -99,12 +106,13 @@ fn take_open<N: Net, W: Watch, H: Handler>(
     ensures last { is_last step.entry ≡ true → is_reading (phase_at hub.new conn.0) ≡ false }
     ensures kept { let seen = moment N.Net W.Watch H.Handler in let to = if result then Some conn.0 else None in
         (table : RouteTable) (before after : ReaderView) → IsRead before (events_of step.entry) after →
-        KeepsView table conn.0 (Some conn.0) to (view_by before route param.now) (view_by after route param.now) (seen hub.old out.old handler.old) (seen hub.new out.new handler.new) }
+        KeepsView (admits guard.now.rule) table conn.0 (Some conn.0) to (view_by before route param.now) (view_by after route param.now)
+        (seen hub.old out.old handler.old) (seen hub.new out.new handler.new) }
 {
     match step {
         Step::More => false,
         Step::Message(kind, body) => {
-            give_message(hub, out, handler, conn, route, param, kind, body);
+            give_message(hub, out, handler, guard, conn, route, param, kind, body);
             true
         }
         Step::Ping(body) => {
@@ -143,8 +151,8 @@ fn take_leaving<N: Net, W: Watch, H: Handler>(
     ensures more { result ≡ false → IsMore step.entry }
     ensures last { is_last step.entry ≡ true → is_reading (phase_at hub.new conn.0) ≡ false }
     ensures kept { let seen = moment N.Net W.Watch H.Handler in let to = if result then Some conn.0 else None in
-        (table : RouteTable) (before after : ReaderView) (route : ℕ) (param : List ℕ) → IsRead before (events_of step.entry) after →
-        KeepsView table conn.0 (Some conn.0) to (view_by before route param) (view_by after route param) (seen hub.old out.old handler.now) (seen hub.new out.new handler.now) }
+        (rule : List ℕ → Bool) (table : RouteTable) (before after : ReaderView) (route : ℕ) (param : List ℕ) → IsRead before (events_of step.entry) after →
+        KeepsView rule table conn.0 (Some conn.0) to (view_by before route param) (view_by after route param) (seen hub.old out.old handler.now) (seen hub.new out.new handler.now) }
 {
     match step {
         Step::More => false,
@@ -167,6 +175,7 @@ fn give_message<'m, N: Net, W: Watch, H: Handler>(
     hub: &mut Hub,
     out: &mut Outside<N, W>,
     handler: &mut H,
+    guard: &TopicGuard,
     conn: Conn,
     route: u8,
     param: &'m [u8],
@@ -175,7 +184,7 @@ fn give_message<'m, N: Net, W: Watch, H: Handler>(
 )
     requires ties { Ties (at N.Net W.Watch hub.old out.old) }
     ensures gives { let seen = moment N.Net W.Watch H.Handler in
-        Gives (note.message conn.0 kind body.now) (record { conn = conn.0; route = route; param = param.now; what = event.message kind body.now })
+        Gives (admits guard.now.rule) (note.message conn.0 kind body.now) (record { conn = conn.0; route = route; param = param.now; what = event.message kind body.now })
         (seen hub.old out.old handler.old) (seen hub.new out.new handler.new) }
     ensures steps { Steps Every (at N.Net W.Watch hub.old out.old) (at N.Net W.Watch hub.new out.new) }
     ensures table { IsTable (table_of hub.new) }
@@ -188,5 +197,5 @@ fn give_message<'m, N: Net, W: Watch, H: Handler>(
         param,
         what,
     };
-    give(hub, out, handler, event);
+    give(hub, out, handler, guard, event);
 }

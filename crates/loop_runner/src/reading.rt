@@ -10,6 +10,7 @@ ghost use Rattle.hub_lines.specs.State.{phase_at};
 ghost use Rattle.hub_lines.specs.Calls.{Ties};
 ghost use Rattle.hub_notes.specs.Progress.{due_at};
 ghost use Rattle.hub_core.specs.At.{at};
+ghost use Rattle.topic_guard.specs.Admits.{admits};
 ghost use Rattle.loop_runner.specs.Intakes.{intake_at};
 ghost use Rattle.loop_runner.specs.Ready.{IsTaken};
 ghost use Rattle.loop_runner.specs.Steps.{Every, But, Steps, Takes, Running, HasFrames};
@@ -22,6 +23,7 @@ use crate::intakes::{Intake, Intakes};
 use hub_core::Hub;
 use link_trait::{Net, NetRead, Outside};
 use route_table::Routes;
+use topic_guard::TopicGuard;
 use ws_kinds::{Conn, Handler, Phase, Watch};
 
 /// The most octets of one read.
@@ -35,6 +37,7 @@ pub(crate) fn readable<N: Net, W: Watch, H: Handler>(
     routes: &Routes,
     out: &mut Outside<N, W>,
     handler: &mut H,
+    guard: &TopicGuard,
     conn: Conn,
 )
     requires none { (other : ℕ) → due_at hub.old other ≡ None }
@@ -42,13 +45,13 @@ pub(crate) fn readable<N: Net, W: Watch, H: Handler>(
     requires running { Running (But conn.0) intakes.old (at N.Net W.Watch hub.old out.old) }
     ensures running { Running Every intakes.new (at N.Net W.Watch hub.new out.new) }
     ensures steps { Steps (But conn.0) (at N.Net W.Watch hub.old out.old) (at N.Net W.Watch hub.new out.new) }
-    ensures kept { let seen = moment N.Net W.Watch H.Handler in Keeps routes.now intakes.old intakes.new (seen hub.old out.old handler.old) (seen hub.new out.new handler.new) }
+    ensures kept { let seen = moment N.Net W.Watch H.Handler in Keeps (admits guard.now.rule) routes.now intakes.old intakes.new (seen hub.old out.old handler.old) (seen hub.new out.new handler.new) }
 {
     if !is_read(hub, conn) {
         return;
     }
     if let Some(intake) = intakes.of(conn) {
-        read(hub, intake, routes, out, handler, conn);
+        read(hub, intake, routes, out, handler, guard, conn);
     }
 }
 
@@ -73,6 +76,7 @@ fn read<N: Net, W: Watch, H: Handler>(
     routes: &Routes,
     out: &mut Outside<N, W>,
     handler: &mut H,
+    guard: &TopicGuard,
     conn: Conn,
 )
     requires none { (other : ℕ) → due_at hub.old other ≡ None }
@@ -81,12 +85,21 @@ fn read<N: Net, W: Watch, H: Handler>(
     requires ties { Ties (at N.Net W.Watch hub.old out.old) }
     ensures takes { Takes conn.0 intake.old.reader intake.new.reader (at N.Net W.Watch hub.old out.old) (at N.Net W.Watch hub.new out.new) }
     ensures kept { let seen = moment N.Net W.Watch H.Handler in
-        KeepsView routes.now conn.0 None None (intake_view intake.old) (intake_view intake.new) (seen hub.old out.old handler.old) (seen hub.new out.new handler.new) }
+        KeepsView (admits guard.now.rule) routes.now conn.0 None None (intake_view intake.old) (intake_view intake.new) (seen hub.old out.old handler.old) (seen hub.new out.new handler.new) }
 {
     let mut space = [0; MOST_OCTETS];
     let most = intake.reader.room().min(MOST_OCTETS);
     match out.net.read(conn, &mut space[..most]) {
-        NetRead::Octets(count) => take(hub, intake, routes, out, handler, conn, &space[..count]),
+        NetRead::Octets(count) => take(
+            hub,
+            intake,
+            routes,
+            out,
+            handler,
+            guard,
+            conn,
+            &space[..count],
+        ),
         NetRead::End => hub.ended(out, conn),
         NetRead::Failed => hub.link_failed(out, conn),
         NetRead::Later => {}
@@ -100,6 +113,7 @@ fn take<N: Net, W: Watch, H: Handler>(
     routes: &Routes,
     out: &mut Outside<N, W>,
     handler: &mut H,
+    guard: &TopicGuard,
     conn: Conn,
     octets: &[u8],
 )
@@ -113,14 +127,15 @@ fn take<N: Net, W: Watch, H: Handler>(
     ensures takes { Takes conn.0 intake.old.reader intake.new.reader (at N.Net W.Watch hub.old out.old) (at N.Net W.Watch hub.new out.new) }
     ensures kept { let seen = moment N.Net W.Watch H.Handler in
         (space : List ℕ) (before : NetState) → take (length octets.now) space ≡ octets.now → Reads conn.0 space (NetRead.Octets (length octets.now)) before (N.state out.old.net) →
-        KeepsView routes.now conn.0 None None (intake_view intake.old) (intake_view intake.new) (with_net before (seen hub.old out.old handler.old)) (seen hub.new out.new handler.new) }
+        KeepsView (admits guard.now.rule) routes.now conn.0 None None (intake_view intake.old) (intake_view intake.new)
+        (with_net before (seen hub.old out.old handler.old)) (seen hub.new out.new handler.new) }
 {
     hub.given(out, conn, octets.len() as u64);
     intake.reader.feed(octets);
     match hub.phase(conn) {
-        Some(Phase::Head) => judge_head(hub, intake, routes, out, handler, conn),
-        Some(Phase::Open) => go_on(hub, intake, out, handler, conn),
-        Some(Phase::Leaving) => go_on(hub, intake, out, handler, conn),
+        Some(Phase::Head) => judge_head(hub, intake, routes, out, handler, guard, conn),
+        Some(Phase::Open) => go_on(hub, intake, out, handler, guard, conn),
+        Some(Phase::Leaving) => go_on(hub, intake, out, handler, guard, conn),
         _ => {}
     }
 }
@@ -131,6 +146,7 @@ fn go_on<N: Net, W: Watch, H: Handler>(
     intake: &mut Intake,
     out: &mut Outside<N, W>,
     handler: &mut H,
+    guard: &TopicGuard,
     conn: Conn,
 )
     requires frames { HasFrames (phase_at hub.old conn.0) intake.old.reader }
@@ -138,13 +154,14 @@ fn go_on<N: Net, W: Watch, H: Handler>(
     requires ties { Ties (at N.Net W.Watch hub.old out.old) }
     ensures takes { Takes conn.0 intake.old.reader intake.new.reader (at N.Net W.Watch hub.old out.old) (at N.Net W.Watch hub.new out.new) }
     ensures kept { let seen = moment N.Net W.Watch H.Handler in (table : RouteTable) →
-        KeepsView table conn.0 (Some conn.0) None (intake_view intake.old) (intake_view intake.new) (seen hub.old out.old handler.old) (seen hub.new out.new handler.new) }
+        KeepsView (admits guard.now.rule) table conn.0 (Some conn.0) None (intake_view intake.old) (intake_view intake.new) (seen hub.old out.old handler.old) (seen hub.new out.new handler.new) }
 {
     read_frames(
         hub,
         &mut intake.reader,
         out,
         handler,
+        guard,
         conn,
         intake.route,
         intake.param.as_slice(),

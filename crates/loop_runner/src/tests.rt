@@ -1,6 +1,6 @@
 //! Turns over a net in memory.
 
-ghost use Rattle.std.specs.Prelude.{◌≡◌};
+ghost use Rattle.std.specs.Prelude.{◌≡◌, ◌≤◌, length};
 
 use super::*;
 use hub_core::Hub;
@@ -9,9 +9,10 @@ use mem_net::{MemNet, Schedule};
 use route_table::Routes;
 use std::process::Abort;
 use std::test::*;
+use topic_guard::{Test, TopicGuard, TopicRule};
 use ws_kinds::{
-    Bytes, Config, Conn, Event, Handler, Kind, Left, Note, Order, Orders, Recorder, Tally, What,
-    Why,
+    Bytes, Config, Conn, Event, Handler, Kind, Left, Name, Note, Order, Orders, Recorder, Tally,
+    What, Why,
 };
 
 const ONE: Conn = Conn(1);
@@ -218,10 +219,11 @@ fn net_of(rt: &HostRuntime, rows: &[Row<'_>]) -> Result<MemNet, Fail> {
     Ok(MemNet::new(rt.alloc(), schedule).ok().ok_or("memory")?)
 }
 
-/// Runs a handler with one route over these acts.
+/// Runs a handler with one route and this guard of topics over these acts.
 fn run_with<H: Handler>(
     rt: &HostRuntime,
     handler: &mut H,
+    guard: &TopicGuard,
     max_conns: u32,
     rows: &[Row<'_>],
     turns: u64,
@@ -238,7 +240,15 @@ fn run_with<H: Handler>(
         watch: Recorder::new(rt.alloc()),
         tally: Tally::new(),
     };
-    let ran = run(&mut hub, &mut intakes, &routes, &mut out, handler, turns);
+    let ran = run(
+        &mut hub,
+        &mut intakes,
+        &routes,
+        &mut out,
+        handler,
+        guard,
+        turns,
+    );
     Ok((out, ran))
 }
 
@@ -278,6 +288,21 @@ fn not_open(conn: Conn, order: u8) -> Note<'static> {
     Note::Unserved { conn, order, why }
 }
 
+fn forbidden(conn: Conn, order: u8) -> Note<'static> {
+    let why = Why::Forbidden;
+    Note::Unserved { conn, order, why }
+}
+
+/// The name of these octets.
+fn name_of(octets: &[u8]) -> Name
+    requires { length octets.now ≤ 64 }
+    ensures { result.items ≡ octets.now }
+{
+    let mut name = Name::new();
+    name.try_extend_from_slice(octets).unwrap();
+    name
+}
+
 /// What an echo with so many connections at most tells over these acts, and how its run ends.
 #[derive(Drop)]
 struct Case<'a> {
@@ -297,6 +322,8 @@ fn reply_and_hello(rt: &HostRuntime) -> Result<Vec<u8>, Fail> {
 
 #[test]
 fn a_head_in_pieces_and_a_message_are_answered(rt: HostRuntime) -> Result<(), Fail> {
+    let test: Test = Box::new(rt.alloc(), |_topic: &[u8]| true)?;
+    let guard = TopicGuard::new(TopicRule::All, test);
     let mut last = HEAD[142..].to_vec(rt.alloc())?;
     last.extend_from_slice(HELLO)?;
     let conn = ONE;
@@ -326,7 +353,14 @@ fn a_head_in_pieces_and_a_message_are_answered(rt: HostRuntime) -> Result<(), Fa
             Note::Turn,
         ],
     };
-    let (out, ran) = run_with(&rt, &mut Echo, case.max_conns, case.rows, case.turns)?;
+    let (out, ran) = run_with(
+        &rt,
+        &mut Echo,
+        &guard,
+        case.max_conns,
+        case.rows,
+        case.turns,
+    )?;
     assert_eq!(rt; ran, case.ran);
     expect_notes(&rt, &out.watch, case.notes);
     assert_eq!(rt; out.net.taken(ONE), reply_and_hello(&rt)?.as_slice());
@@ -335,6 +369,8 @@ fn a_head_in_pieces_and_a_message_are_answered(rt: HostRuntime) -> Result<(), Fa
 
 #[test]
 fn of_two_closes_in_the_answer_to_an_opening_one_is_served(rt: HostRuntime) -> Result<(), Fail> {
+    let test: Test = Box::new(rt.alloc(), |_topic: &[u8]| true)?;
+    let guard = TopicGuard::new(TopicRule::All, test);
     let notes = [
         Note::Accepted(ONE),
         given(ONE, 144),
@@ -352,7 +388,7 @@ fn of_two_closes_in_the_answer_to_an_opening_one_is_served(rt: HostRuntime) -> R
         Note::Turn,
     ];
     let rows = [Row::Arrive(ONE), Row::Octets(ONE, HEAD)];
-    let (out, ran) = run_with(&rt, &mut Closer, 2, &rows, 1)?;
+    let (out, ran) = run_with(&rt, &mut Closer, &guard, 2, &rows, 1)?;
     assert_eq!(rt; ran, Ran::Stopped(1));
     expect_notes(&rt, &out.watch, &notes);
     assert!(rt; out.net.taken(ONE).ends_with(b"\x88\x05\x03\xe8bye"));
@@ -361,6 +397,8 @@ fn of_two_closes_in_the_answer_to_an_opening_one_is_served(rt: HostRuntime) -> R
 
 #[test]
 fn the_answer_to_a_closed_event_is_served(rt: HostRuntime) -> Result<(), Fail> {
+    let test: Test = Box::new(rt.alloc(), |_topic: &[u8]| true)?;
+    let guard = TopicGuard::new(TopicRule::All, test);
     let rows = [
         Row::Arrive(ONE),
         Row::Octets(ONE, HEAD),
@@ -397,7 +435,7 @@ fn the_answer_to_a_closed_event_is_served(rt: HostRuntime) -> Result<(), Fail> {
         took(TWO, 6),
         Note::Turn,
     ];
-    let (out, ran) = run_with(&rt, &mut Announcer, 2, &rows, 9)?;
+    let (out, ran) = run_with(&rt, &mut Announcer, &guard, 2, &rows, 9)?;
     assert_eq!(rt; ran, Ran::Stopped(2));
     expect_notes(&rt, &out.watch, &notes);
     Ok(())
@@ -405,6 +443,8 @@ fn the_answer_to_a_closed_event_is_served(rt: HostRuntime) -> Result<(), Fail> {
 
 #[test]
 fn each_way_to_leave_is_told(rt: HostRuntime) -> Result<(), Fail> {
+    let test: Test = Box::new(rt.alloc(), |_topic: &[u8]| true)?;
+    let guard = TopicGuard::new(TopicRule::All, test);
     let conn = ONE;
     let reason = b"";
     let cases = [
@@ -525,7 +565,14 @@ fn each_way_to_leave_is_told(rt: HostRuntime) -> Result<(), Fail> {
         },
     ];
     for case in &cases {
-        let (out, ran) = run_with(&rt, &mut Echo, case.max_conns, case.rows, case.turns)?;
+        let (out, ran) = run_with(
+            &rt,
+            &mut Echo,
+            &guard,
+            case.max_conns,
+            case.rows,
+            case.turns,
+        )?;
         assert_eq!(rt; ran, case.ran);
         expect_notes(&rt, &out.watch, case.notes);
     }
@@ -535,6 +582,8 @@ fn each_way_to_leave_is_told(rt: HostRuntime) -> Result<(), Fail> {
 /// Two connections send their messages, each cut at each place, one piece after another.
 #[test]
 fn connections_interleave_at_every_place(rt: HostRuntime) -> Result<(), Fail> {
+    let test: Test = Box::new(rt.alloc(), |_topic: &[u8]| true)?;
+    let guard = TopicGuard::new(TopicRule::All, test);
     let all = reply_and_hello(&rt)?;
     for cut in 1..HELLO.len() {
         let (front, behind) = HELLO.split_at(cut.min(HELLO.len()));
@@ -548,7 +597,7 @@ fn connections_interleave_at_every_place(rt: HostRuntime) -> Result<(), Fail> {
             Row::Octets(ONE, behind),
             Row::Octets(TWO, behind),
         ];
-        let (out, ran) = run_with(&rt, &mut Echo, 2, &rows, 9)?;
+        let (out, ran) = run_with(&rt, &mut Echo, &guard, 2, &rows, 9)?;
         assert_eq!(rt; ran, Ran::Stopped(1));
         assert_eq!(rt; out.net.taken(ONE), all.as_slice());
         assert_eq!(rt; out.net.taken(TWO), all.as_slice());
@@ -559,6 +608,8 @@ fn connections_interleave_at_every_place(rt: HostRuntime) -> Result<(), Fail> {
 /// The Opened event is the first one: it and the second message are those at which messages are sent.
 #[test]
 fn a_handler_keeps_its_state_between_turns(rt: HostRuntime) -> Result<(), Fail> {
+    let test: Test = Box::new(rt.alloc(), |_topic: &[u8]| true)?;
+    let guard = TopicGuard::new(TopicRule::All, test);
     let rows = [
         Row::Arrive(ONE),
         Row::Octets(ONE, HEAD),
@@ -569,9 +620,39 @@ fn a_handler_keeps_its_state_between_turns(rt: HostRuntime) -> Result<(), Fail> 
         Row::Octets(ONE, HELLO),
     ];
     let mut handler = EverySecond { sends: false };
-    let (out, ran) = run_with(&rt, &mut handler, 2, &rows, 9)?;
+    let (out, ran) = run_with(&rt, &mut handler, &guard, 2, &rows, 9)?;
     assert_eq!(rt; ran, Ran::Stopped(3));
     assert_eq!(rt; handler.sends, false);
     assert_eq!(rt; out.net.taken(ONE), reply_and_hello(&rt)?.as_slice());
+    Ok(())
+}
+
+/// What is forbidden is not subscribed to, also where a publication of the same answer is served.
+#[test]
+fn orders_are_served_as_the_guard_allows(rt: HostRuntime) -> Result<(), Fail> {
+    let test: Test = Box::new(rt.alloc(), |topic: &[u8]| topic.starts_with(b"pub/"))?;
+    let guard = TopicGuard::new(TopicRule::Only(name_of(b"pub/")), test);
+    let rows = [
+        Row::Arrive(ONE),
+        Row::Octets(ONE, HEAD),
+        Row::Arrive(TWO),
+        Row::Octets(TWO, HEAD),
+    ];
+    let notes = [
+        Note::Accepted(ONE),
+        given(ONE, 144),
+        opened(ONE),
+        took(ONE, 129),
+        forbidden(ONE, 0),
+        Note::Accepted(TWO),
+        given(TWO, 144),
+        opened(TWO),
+        took(TWO, 129),
+        forbidden(TWO, 0),
+        Note::Turn,
+    ];
+    let (out, ran) = run_with(&rt, &mut Announcer, &guard, 2, &rows, 1)?;
+    assert_eq!(rt; ran, Ran::Stopped(1));
+    expect_notes(&rt, &out.watch, &notes);
     Ok(())
 }

@@ -6,6 +6,7 @@ ghost use Rattle.hub_lines.specs.Calls.{Ties};
 ghost use Rattle.hub_notes.specs.Progress.{due_at};
 ghost use Rattle.hub_core.specs.At.{at};
 ghost use Rattle.run_told.specs.Pass.{TellsAll};
+ghost use Rattle.topic_guard.specs.Admits.{admits};
 ghost use Rattle.loop_runner.specs.Ready.{Ready};
 ghost use Rattle.loop_runner.specs.Steps.{Every, OffersIfThere, Running};
 ghost use Rattle.loop_runner.specs.Moments.{moment, KeepsOn};
@@ -19,6 +20,7 @@ use crate::telling::tell_all;
 use hub_core::Hub;
 use link_trait::{Net, NetEvent, Outside};
 use route_table::Routes;
+use topic_guard::TopicGuard;
 use ws_kinds::{Conn, Handler, Phase, Watch};
 
 /// How a turn ended.
@@ -37,7 +39,8 @@ pub enum Turned {
 ///
 /// First all Closed events that are due are given to the handler, and again after each thing that the net told. After the first ones
 /// the handler is told of each connection of which items were dropped, or of which what was held is taken, in ascending order. What
-/// the handler orders in answer to an event is done before anything else.
+/// the handler orders in answer to an event is done before anything else, and the guard says which topics may be subscribed to
+/// ([`Hub::perform`]). What is kept and right is said by the guard's rule, and is so from turn to turn while the rule stays.
 ///
 /// The hub and the intakes have to be ready, as they are when both are new and as this leaves them: they have the same
 /// connections and the same limit of a message's octets, the net named each of them, no frame is pending, and what came of each
@@ -47,7 +50,8 @@ pub enum Turned {
 /// What is kept before the turn is kept after it (`kept`), and then the run is right (`right`): what the handler was given is what
 /// the octets say, and what each link took, with what is held, is what was sent. Nothing came from outside between a connection's
 /// leaving Open and its Closed event. Where at the end of each earlier turn the handler had been given what the octets read until
-/// then say, it was so at the end of this one too (`throughout`), with which the notes end (`last`). Where besides each link that was live is that of an entry which is not gone, it is so afterwards (`there`), and all
+/// then say, it was so at the end of this one too (`throughout`), with which the notes end (`last`). Where besides each link that
+/// was live is that of an entry which is not gone, it is so afterwards (`there`), and all
 /// is settled (`settled`): what was ready was read, and the handler was told of each connection that left Open, but for those that
 /// left as the turn ended. This is said for nets and watches that tell, and where fewer than 2^64 - 1 answers of the net and items
 /// of a connection were counted.
@@ -57,13 +61,15 @@ pub fn run_turn<N: Net, W: Watch, H: Handler>(
     routes: &Routes,
     out: &mut Outside<N, W>,
     handler: &mut H,
+    guard: &TopicGuard,
 ) -> Turned
     requires { Ready intakes.old (at N.Net W.Watch hub.old out.old) }
-    ensures { let seen = moment N.Net W.Watch H.Handler in MakesTurn routes.now result intakes.old intakes.new (seen hub.old out.old handler.old) (seen hub.new out.new handler.new) }
+    ensures { let seen = moment N.Net W.Watch H.Handler in
+        MakesTurn (admits guard.now.rule) routes.now result intakes.old intakes.new (seen hub.old out.old handler.old) (seen hub.new out.new handler.new) }
 {
-    begin(hub, intakes, out, handler);
+    begin(hub, intakes, out, handler, guard);
     'events: loop {
-        match take_event(hub, intakes, routes, out, handler) {
+        match take_event(hub, intakes, routes, out, handler, guard) {
             None => {}
             Some(turned) => return turned,
         }
@@ -77,18 +83,19 @@ fn begin<N: Net, W: Watch, H: Handler>(
     intakes: &mut Intakes,
     out: &mut Outside<N, W>,
     handler: &mut H,
+    guard: &TopicGuard,
 )
     requires { Ready intakes.old (at N.Net W.Watch hub.old out.old) }
     ensures none { (conn : ℕ) → due_at hub.new conn ≡ None }
-    ensures keeps { let seen = moment N.Net W.Watch H.Handler in KeepsOn intakes.old intakes.new (seen hub.old out.old handler.old) (seen hub.new out.new handler.new) }
+    ensures keeps { let seen = moment N.Net W.Watch H.Handler in KeepsOn (admits guard.now.rule) intakes.old intakes.new (seen hub.old out.old handler.old) (seen hub.new out.new handler.new) }
     ensures told { TellsAll (at N.Net W.Watch hub.old out.old) (at N.Net W.Watch hub.new out.new) }
 {
     if hub.count() == 0 {
         return;
     }
-    close_all(hub, intakes, out, handler);
-    tell_all(hub, intakes, out, handler);
-    close_all(hub, intakes, out, handler);
+    close_all(hub, intakes, out, handler, guard);
+    tell_all(hub, intakes, out, handler, guard);
+    close_all(hub, intakes, out, handler, guard);
 }
 
 /// Takes the next event, and gives the Closed events that are due then. Answers how the turn ended, if it did.
@@ -98,30 +105,32 @@ fn take_event<N: Net, W: Watch, H: Handler>(
     routes: &Routes,
     out: &mut Outside<N, W>,
     handler: &mut H,
+    guard: &TopicGuard,
 ) -> Option<Turned>
     requires none { (conn : ℕ) → due_at hub.old conn ≡ None }
     requires running { Running Every intakes.old (at N.Net W.Watch hub.old out.old) }
-    ensures { let seen = moment N.Net W.Watch H.Handler in TakesEvent routes.now result intakes.old intakes.new (seen hub.old out.old handler.old) (seen hub.new out.new handler.new) }
+    ensures { let seen = moment N.Net W.Watch H.Handler in
+        TakesEvent (admits guard.now.rule) routes.now result intakes.old intakes.new (seen hub.old out.old handler.old) (seen hub.new out.new handler.new) }
 {
     match out.net.next() {
         NetEvent::Accept(conn) => {
             arrive(hub, intakes, out, handler, conn);
-            close_all(hub, intakes, out, handler);
+            close_all(hub, intakes, out, handler, guard);
             None
         }
         NetEvent::Readable(conn) => {
-            readable(hub, intakes, routes, out, handler, conn);
-            close_all(hub, intakes, out, handler);
+            readable(hub, intakes, routes, out, handler, guard, conn);
+            close_all(hub, intakes, out, handler, guard);
             None
         }
         NetEvent::Writable(conn) => {
             offer(hub, out, conn);
-            close_all(hub, intakes, out, handler);
+            close_all(hub, intakes, out, handler, guard);
             None
         }
         NetEvent::Tick => {
             hub.tick(out);
-            close_all(hub, intakes, out, handler);
+            close_all(hub, intakes, out, handler, guard);
             None
         }
         NetEvent::Turn => {

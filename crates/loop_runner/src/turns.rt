@@ -1,6 +1,7 @@
 //! Turn after turn.
 
 ghost use Rattle.hub_core.specs.At.{at};
+ghost use Rattle.topic_guard.specs.Admits.{admits};
 ghost use Rattle.loop_runner.specs.Ready.{Ready};
 ghost use Rattle.loop_runner.specs.Moments.{moment};
 ghost use Rattle.loop_runner.specs.Turning.{MakesRun};
@@ -10,6 +11,7 @@ use crate::turn::{Turned, run_turn};
 use hub_core::Hub;
 use link_trait::{Net, Outside};
 use route_table::Routes;
+use topic_guard::TopicGuard;
 use ws_kinds::{Handler, Watch};
 
 /// How a run ended.
@@ -23,7 +25,8 @@ pub enum Ran {
     NetFault,
 }
 
-/// Makes turns, until nothing will come any more, the net has a fault, or so many were made. Where `turns` is 0, none is made.
+/// Makes turns, until nothing will come any more, the net has a fault, or so many were made. Where `turns` is 0, none is made. The
+/// guard says which topics may be subscribed to, as for [`run_turn`].
 ///
 /// Each turn but the last ended with Turn, and the last as the answer says: with Stop, with Turn, or with Failed, where the net tells
 /// (`runs`). Where the watch tells, as many Turn notes were added as turns were made (`noted`), also over a net that tells nothing. The
@@ -39,13 +42,15 @@ pub fn run<N: Net, W: Watch, H: Handler>(
     routes: &Routes,
     out: &mut Outside<N, W>,
     handler: &mut H,
+    guard: &TopicGuard,
     turns: u64,
 ) -> Ran
     requires { Ready intakes.old (at N.Net W.Watch hub.old out.old) }
-    ensures { let seen = moment N.Net W.Watch H.Handler in MakesRun routes.now result turns intakes.old intakes.new (seen hub.old out.old handler.old) (seen hub.new out.new handler.new) }
+    ensures { let seen = moment N.Net W.Watch H.Handler in
+        MakesRun (admits guard.now.rule) routes.now result turns intakes.old intakes.new (seen hub.old out.old handler.old) (seen hub.new out.new handler.new) }
 {
     'turns: for turn in 0..turns {
-        match run_turn(hub, intakes, routes, out, handler) {
+        match run_turn(hub, intakes, routes, out, handler, guard) {
             Turned::Turn => {}
             Turned::Stop => return Ran::Stopped(turn + 1),
             Turned::Failed => return Ran::NetFault,

@@ -8,8 +8,6 @@
 //! reads at most 16,384 octets for each report of a socket that lingers, of which there are 256 at most; with a tick it may close
 //! these. `read` and `write` make one call to the machine and one registration at most. Memory is taken for 1,024 reports and 256
 //! sockets that linger at first, and then for each live connection.
-//!
-//! Nothing uses this crate yet.
 #![tactic(auto)]
 
 mod lingering;

@@ -29,6 +29,7 @@ mod reading;
 mod report;
 
 pub use fault::{Fault, ReadFault};
+pub use output::write_numbers;
 pub use printing::print;
 pub use reading::read;
 pub use report::{one_report, report_link, report_note};

@@ -23,8 +23,9 @@ enum Last<'a> {
     Hex(&'a [u8]),
 }
 
-/// Writes a line of a word and numbers in decimal. Answers whether the sink took all of it.
-pub(crate) fn write_numbers<K: Sink>(sink: &mut K, word: &[u8], numbers: &[u64]) -> bool
+/// Writes a line of a word and numbers in decimal, with one space before each number. Answers whether the sink took all of it; where
+/// it did not, it took a front of it. No memory is taken.
+pub fn write_numbers<K: Sink>(sink: &mut K, word: &[u8], numbers: &[u64]) -> bool
     ensures { WritesTo K.Sink (line (parts word.now numbers.now [])) sink.old sink.new result }
 {
     write_line(sink, word, numbers, Last::Nothing)

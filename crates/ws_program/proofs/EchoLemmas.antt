@@ -1,5 +1,5 @@
 -- What an echo did so far: the octets that came, and what is still ahead of the reader.
-use Rattle.ws_program.proofs.Below.{◌||◌, list_any, ◌≡◌, ℕ, ◌+◌, ◌≤◌, Bool, true, false, List, [], ◌∷◌, ◌++◌, length, take, Option, None, refl, sym, ap, subst, ◌∙◌, append_assoc, append-nil, arith, length-take, inr, take-append-le, length-take-le, Appends, Consumes, Appends-nil, Appends-trans, Consumes-nil, Consumes-trans, AppendsFront, Event, is_last, reading, echoed, reads_is, Reader, ahead, room_of, raw_of, AreShort, answers_to, Status, Done, Usage, Refused, ReadFault, WriteFault, OutOfMemory, TooLong, has_ended, EchoesFront, EndsDone, EndsTooLong, ReadsNoFurther, EndsPast, reading_short}
+use Rattle.ws_program.proofs.Below.{◌||◌, list_any, ◌≡◌, ℕ, ◌+◌, ◌≤◌, Bool, true, false, List, [], ◌∷◌, ◌++◌, length, take, Option, None, refl, sym, ap, subst, ◌∙◌, append_assoc, append-nil, arith, length-take, inr, take-append-le, length-take-le, Appends, Consumes, Appends-nil, Appends-trans, Consumes-nil, Consumes-trans, AppendsFront, Event, is_last, reading, echoed, reads_is, Reader, ahead, room_of, raw_of, AreShort, answers_to, Status, Done, Usage, Refused, ReadFault, WriteFault, NetFault, OutOfMemory, TooLong, has_ended, EchoesFront, EndsDone, EndsTooLong, ReadsNoFurther, EndsPast, reading_short}
 use Rattle.std.proofs.Common.{length-append}
 use Rattle.wire_meaning.proofs.LastLemmas as last
 use Rattle.frame_reader.specs.Reader as readers
@@ -182,4 +182,5 @@ past_no_further (Refused line fault) max came reader l m k f f' (others, took', 
     (came, others, Consumes-trans l m k came others took took', stands.not_over, omega arith, omega arith)
 past_no_further ReadFault max came reader l m k f f' (same, cause) stands took full = unmoved_no_further max 0 came reader l m k stands took same (omega arith)
 past_no_further WriteFault max came reader l m k f f' ends stands took full = absurd ends
+past_no_further NetFault max came reader l m k f f' ends stands took full = absurd ends
 past_no_further OutOfMemory max came reader l m k f f' ends stands took full = absurd ends

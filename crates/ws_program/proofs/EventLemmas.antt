@@ -1,5 +1,5 @@
 -- Events that are told of a reader, and their answers.
-use Rattle.ws_program.proofs.Below.{◌||◌, list_any, ◌≡◌, ℕ, suc, Bool, true, false, List, [], ◌∷◌, ◌++◌, length, Option, None, Some, refl, sym, ap, subst, ◌∙◌, append_assoc, append-nil, arith, flat_map-append, list_any-append, AppendsFront, Event, is_last, spelled, answers, Step, Reader, ahead, events_of, HasStepped, Answered, AreShort, Passes, Answers, GoesOn, AnswersStep, AnswersNext, AnswersAll, answers_to, or_false}
+use Rattle.ws_program.proofs.Below.{◌||◌, list_any, ◌≡◌, ℕ, suc, true, false, List, [], ◌∷◌, ◌++◌, length, Option, refl, sym, ap, subst, ◌∙◌, append_assoc, append-nil, arith, flat_map-append, list_any-append, AppendsFront, Event, is_last, spelled, answers, Step, Reader, ahead, events_of, HasStepped, Answered, AreShort, Passes, Answers, GoesOn, AnswersStep, AnswersNext, AnswersAll, answers_to, or_false}
 use Rattle.std.proofs.Common.{flat_map}
 use Rattle.wire_meaning.specs.Event as event
 use Rattle.frame_reader.specs.declared.step.Step.TheVariants as step

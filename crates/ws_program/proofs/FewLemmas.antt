@@ -135,7 +135,7 @@ opens_quiet route conn param = both (nat_eq route 1)
 said_quiet : (e : EventValue) → e.what ≡ event.opened → flat_map frames_of (bus_said e) ≡ []
 said_quiet e opens = ap (λ (what : WhatValue). flat_map frames_of (option_to_list (order_on e.route e.conn e.param what))) opens ∙ opens_quiet e.route e.conn e.param
 
-pub few_items : (replies : ℕ → List ℕ) (ns front behind before : List NoteValue) → ns ≡ before ++ note.turn ∷ [] → length ns < 2 ^ 64 → ns ≡ front ++ behind
-    → (d : ℕ) → length (plain (bus_server replies) front d) < 2 ^ 64 - 1
-few_items replies ns front behind before last short split d =
-    few_plain (bus_server replies) (λ now e. said_one (bus_order e)) (λ now e opens. said_quiet e opens) ns front behind before last short split d
+pub few_items : (admits : List ℕ → Bool) (replies : ℕ → List ℕ) (ns front behind before : List NoteValue) → ns ≡ before ++ note.turn ∷ [] → length ns < 2 ^ 64 → ns ≡ front ++ behind
+    → (d : ℕ) → length (plain (bus_server admits replies) front d) < 2 ^ 64 - 1
+few_items admits replies ns front behind before last short split d =
+    few_plain (bus_server admits replies) (λ now e. said_one (bus_order e)) (λ now e opens. said_quiet e opens) ns front behind before last short split d

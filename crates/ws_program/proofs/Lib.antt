@@ -5,6 +5,7 @@ pub mod EchoLemmas
 pub mod ReportLemmas
 pub mod ReplayLemmas
 pub mod RunLemmas
+pub mod ServeLemmas
 pub mod FewLemmas
 pub mod StopLemmas
 pub mod EndLemmas

@@ -1,5 +1,5 @@
 -- Octets that pass through those held: a front is written, and the rest is held.
-use Rattle.ws_program.proofs.Below.{◌≡◌, ℕ, List, [], ◌++◌, Option, None, Some, sym, ap, subst, ◌∙◌, append_assoc, append-nil, Appends, Appends-nil, Appends-trans, TellsAlike, AppendsFront, Passes}
+use Rattle.ws_program.proofs.Below.{◌≡◌, ℕ, List, [], ◌++◌, Option, None, Some, sym, ap, subst, ◌∙◌, append_assoc, append-nil, Appends-nil, Appends-trans, TellsAlike, AppendsFront, Passes}
 
 pub tells_alike_same : (told : Option (List ℕ)) → TellsAlike told told
 tells_alike_same None = tt

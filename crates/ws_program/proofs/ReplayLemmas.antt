@@ -1,6 +1,5 @@
 -- What was read of a text can be run.
-use Rattle.ws_program.proofs.Below.{◌≡◌, ◌≤◌, ◌<◌, ◌+◌, ◌++◌, ◌&&◌, ℕ, List, [], ◌∷◌, Some, None, true, length, refl, ◌⊎◌, inl, inr, Option, append-nil, subst, ap, ◌∙◌, arith, rules, list_all, AllByRecursion, flat_map, length-append, Act, header, IsText, IsRefused, Fault, Consumes, IsAtEnd, ConfigValue, TellsAlike, Status, Done, Usage, Refused, ReadFault, WriteFault, OutOfMemory, CanRun, AnswersText, IsTaken, RefusesAs, ReplaysAll, ReplaysFront, IsRefusal, ReplayEnds, Streams, spelled_some}
-use Rattle.link_trait.specs.declared.act.Act.TheVariants as act
+use Rattle.ws_program.proofs.Below.{◌≡◌, ◌≤◌, ◌<◌, ◌+◌, ◌++◌, ℕ, List, [], ◌∷◌, Some, None, Bool, length, ◌⊎◌, inl, inr, Option, append-nil, subst, ap, ◌∙◌, arith, rules, flat_map, length-append, Act, header, IsText, IsRefused, Fault, Consumes, IsAtEnd, ConfigValue, TellsAlike, Status, Done, Usage, Refused, ReadFault, WriteFault, NetFault, OutOfMemory, CanRun, AnswersText, IsTaken, RefusesAs, ReplaysAll, ReplaysFront, IsRefusal, ReplayEnds, Streams, spelled_some}
 use Rattle.schedule_text.specs.Spelling.{spelled}
 use Rattle.schedule_text.specs.declared.fault.Fault.TheVariants as fault
 use Rattle.ws_program.proofs.PassLemmas.{tells_alike_unmoved}
@@ -60,17 +59,17 @@ at_end : (octets : List ℕ) (acts : List Act) (left' : Option (List ℕ)) → I
 at_end octets acts left' text (inl end) = end
 at_end octets acts left' text (inr long) = absurd (too_long octets long text.short)
 
-module _ (config : ConfigValue) (octets : List ℕ) (old new : Streams) (took : Consumes old.left new.left octets) (ends : IsAtEnd new.left ⊎ (1048576 < length octets))
+module _ (admits : List ℕ → Bool) (config : ConfigValue) (octets : List ℕ) (old new : Streams) (took : Consumes old.left new.left octets) (ends : IsAtEnd new.left ⊎ (1048576 < length octets))
     (unfailing : new.read_faults ≡ old.read_faults) (source_tells : TellsAlike old.left new.left) where
-  pub text_ends : (status : Status) → AnswersText config octets status old.written new.written old.write_faults new.write_faults
+  pub text_ends : (status : Status) → AnswersText admits config octets status old.written new.written old.write_faults new.write_faults
       → ((all : List ℕ) (acts : List Act) → old.left ≡ Some all → IsText all acts → IsTaken status)
-      → ((all : List ℕ) (line : ℕ) (fault : Fault) → old.left ≡ Some all → IsRefused all line fault → RefusesAs line fault status) → ReplayEnds config status old new
+      → ((all : List ℕ) (line : ℕ) (fault : Fault) → old.left ≡ Some all → IsRefused all line fault → RefusesAs line fault status) → ReplayEnds admits config status old new
   text_ends Done (acts, schedule, (text, reports, (wrote, alike, same))) every_text every_fault =
-      let all : ReplaysAll config old.left new.left old.written new.written =
+      let all : ReplaysAll admits config old.left new.left old.written new.written =
       (octets, text, took, at_end octets acts new.left schedule ends, record { acts = acts; schedule = schedule; reports = reports }, wrote) in
       search rules
   text_ends WriteFault (acts, schedule, (text, reports, fails)) every_text every_fault =
-      let front : ReplaysFront config old.left new.left old.written new.written =
+      let front : ReplaysFront admits config old.left new.left old.written new.written =
       (octets, text, took, at_end octets acts new.left schedule ends, record { acts = acts; schedule = schedule; reports = reports }, fails.written) in
       search rules
   text_ends (Refused line fault) (refused, unwritten, same) every_text every_fault =
@@ -82,3 +81,4 @@ module _ (config : ConfigValue) (octets : List ℕ) (old new : Streams) (took : 
       search rules
   text_ends Usage (acts, schedule, never) every_text every_fault = absurd never
   text_ends ReadFault (acts, schedule, never) every_text every_fault = absurd never
+  text_ends NetFault (acts, schedule, never) every_text every_fault = absurd never

@@ -1,5 +1,5 @@
 -- What comes of the acts of a schedule, where a run over its net is right and settled.
-use Rattle.ws_program.proofs.Below.{◌≡◌, ◌≢◌, ℕ, List, [], ◌∷◌, ◌++◌, Bool, true, false, cond, not, ◌&&◌, ◌||◌, ◌⊎◌, inl, inr, Option, Some, None, length, take, nat_eq, nat_lt, refl, sym, ap, ◌∙◌, subst, append-nil, arith, take-length, nat_tests, list_any, ConfigValue, Left, PeerEnd, LinkFailed, Phase, Head, Open, Leaving, Ending, Gone, NoteValue, Act, Finish, sent, finish_of, finish_by, or_then, is_end, is_fault, LinkState, is_ready, is_finish, has_arrived, is_ending, MemNetState, FollowsSchedule, net_state, link_at, not_there, RouteTable, is_gone_by, is_accepted, is_gone_by_in, phase, is_gone_phase, is_reading, Right, LivedThroughout, by_cases, clash, both_left, both_right, unaccepted_phase, IsReplayed, is_end_of, is_fault_of, or_second, or_first, is_left, is_gone_in, Server, known_world, bus_server, gone-append, credit_of, is_write_failure, writes_fail}
+use Rattle.ws_program.proofs.Below.{◌≡◌, ◌≢◌, ℕ, List, [], ◌∷◌, ◌++◌, Bool, true, false, cond, not, ◌&&◌, ◌||◌, ◌⊎◌, inl, inr, Option, Some, None, length, take, nat_eq, nat_lt, refl, sym, ap, ◌∙◌, append-nil, arith, take-length, nat_tests, list_any, ConfigValue, Left, PeerEnd, LinkFailed, Phase, Head, Open, Leaving, Ending, Gone, NoteValue, Act, Finish, sent, finish_of, finish_by, or_then, is_end, is_fault, LinkState, is_ready, is_finish, has_arrived, is_ending, MemNetState, FollowsSchedule, net_state, link_at, not_there, RouteTable, is_gone_by, is_accepted, is_gone_by_in, phase, is_gone_phase, is_reading, Right, LivedThroughout, by_cases, clash, both_left, both_right, unaccepted_phase, IsReplayed, is_end_of, is_fault_of, or_second, or_first, is_left, is_gone_in, Server, known_world, bus_server, gone-append, credit_of, is_write_failure, writes_fail}
 use Rattle.ws_kinds.specs.NoteValue as note
 use Rattle.link_trait.specs.declared.act.Act.TheVariants as act
 use Rattle.mem_net.specs.declared.mem_link.Finish.TheVariants as finish
@@ -237,16 +237,16 @@ module _ {S : Type 0} (s : Server S) (f : ConfigValue) (t : RouteTable) (ns : Li
         let there = arrived d (λ link. link.live) lives (λ none. ap (λ (link : LinkState). link.live) (not_there d net none)) in
         ap (credit_of d) (sym all_acts) ∙ (follows.fits d there).takes.full lives (settled.waits d some)
 
-pub replay_all : (f : ConfigValue) (t : RouteTable) (ns : List NoteValue) (net : MemNetState) (held replies : ℕ → List ℕ) → Right (bus_server replies) f t ns (net_state net) tt held
-    → FollowsSchedule net → net.whole ≡ true → net.done ≡ length net.acts → Settled (bus_server replies) ns (net_state net) (record { pending = 0; gathered = []; backlog = held })
-    → LivedThroughout (bus_server replies) t f.max_message ns (net_state net).given → IsReplayed f t net.acts ns (net_state net) held replies
-replay_all f t ns net held replies right follows whole done settled throughout = record {
+pub replay_all : (admits : List ℕ → Bool) (f : ConfigValue) (t : RouteTable) (ns : List NoteValue) (net : MemNetState) (held replies : ℕ → List ℕ) → Right (bus_server admits replies) f t ns (net_state net) tt held
+    → FollowsSchedule net → net.whole ≡ true → net.done ≡ length net.acts → Settled (bus_server admits replies) ns (net_state net) (record { pending = 0; gathered = []; backlog = held })
+    → LivedThroughout (bus_server admits replies) t f.max_message ns (net_state net).given → IsReplayed admits f t net.acts ns (net_state net) held replies
+replay_all admits f t ns net held replies right follows whole done settled throughout = record {
   right = right;
   settled = settled;
   throughout = throughout;
-  given = replay_given (bus_server replies) f t ns net held tt right follows whole done settled;
-  unended = replay_unended (bus_server replies) f t ns net held tt right follows whole done settled;
-  ended = replay_ended (bus_server replies) f t ns net held tt right follows whole done settled;
-  failed = replay_failed (bus_server replies) f t ns net held tt right follows whole done settled;
-  short = replay_short (bus_server replies) f t ns net held tt right follows whole done settled;
+  given = replay_given (bus_server admits replies) f t ns net held tt right follows whole done settled;
+  unended = replay_unended (bus_server admits replies) f t ns net held tt right follows whole done settled;
+  ended = replay_ended (bus_server admits replies) f t ns net held tt right follows whole done settled;
+  failed = replay_failed (bus_server admits replies) f t ns net held tt right follows whole done settled;
+  short = replay_short (bus_server admits replies) f t ns net held tt right follows whole done settled;
 }

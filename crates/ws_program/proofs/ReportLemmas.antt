@@ -1,5 +1,5 @@
 -- Lines that are written one after the other, and what is held for a connection.
-use Rattle.ws_program.proofs.Below.{◌≡◌, ◌≤◌, ℕ, suc, List, [], ◌∷◌, ◌++◌, Option, Some, None, Bool, true, false, cond, not, ◌+◌, take, drop, take-append-drop, arith, map, slice_get, length, refl, sym, ap, ◌∙◌, subst, append_assoc, append-nil, flat_map, Appends-nil, Appends-trans, Phase, Gone, NoteValue, Rose, TellsAlike-trans, WritesText, Link, link_line, HubState, Entry, has_entry, entry_at, phase_at, ring_at, held_at, held_octets, Settled, settled_held, none_of, next, backlog_at, gather, accepted_by, gather-append, take_one, links_of, all_link_lines, AreLinks, phase_there, is_gone}
+use Rattle.ws_program.proofs.Below.{◌≡◌, ◌≤◌, ℕ, List, [], ◌∷◌, ◌++◌, Option, Some, None, Bool, true, false, cond, not, ◌+◌, take, drop, take-append-drop, map, slice_get, length, refl, sym, ap, ◌∙◌, subst, append_assoc, append-nil, flat_map, Appends-trans, Phase, Gone, NoteValue, Rose, TellsAlike-trans, WritesText, Link, link_line, HubState, Entry, has_entry, entry_at, phase_at, ring_at, held_at, held_octets, Settled, settled_held, none_of, next, backlog_at, gather, accepted_by, gather-append, take_one, links_of, all_link_lines, AreLinks, phase_there, is_gone}
 use Rattle.ws_program.proofs.PassLemmas.{front_of_more}
 
 -- text behind text

@@ -1,5 +1,5 @@
 -- What a run over a net in memory comes to, by what the loop says of it.
-use Rattle.ws_program.proofs.Below.{◌≡◌, ◌<◌, ◌≤◌, ◌+◌, ◌-◌, ◌^◌, ℕ, List, [], ◌∷◌, ◌++◌, Option, Some, None, Bool, true, false, cond, nat_eq, map, length, refl, sym, ap, ◌∙◌, subst, arith, count_by, length-append, ConfigValue, NoteValue, RecorderState, told_by, NetEvent, Act, passes, arrivals, sent, new_link, MemNetState, FollowsSchedule, net_state, start_net, link_of, RouteTable, Head, Gone, AreReplies, HubState, server, clash, IsTable, table_of, Settled, report, AreThere, backlog_at, there_first, intake_at, Intakes, kept_at_first, Runs, Beginning, IsRight, IsSettled, IsLivedThroughout, EndsWithTurn, AreFew, KeptAll, AreViews, no_view, IntakeView, AreNotes, IsReplayed, IsReport, AreLinks, links_of, is_turn_act, CanRun, HasRun, bus_said, routes_of_bus, bus_server, BetweenTurns, IsBetweenTurns, at_first}
+use Rattle.ws_program.proofs.Below.{◌≡◌, ◌<◌, ◌≤◌, ◌+◌, ◌-◌, ◌^◌, ℕ, List, [], ◌∷◌, ◌++◌, Option, Some, None, Bool, true, false, cond, nat_eq, map, length, refl, sym, ap, ◌∙◌, subst, arith, count_by, length-append, ConfigValue, NoteValue, RecorderState, told_by, NetEvent, Act, passes, arrivals, sent, new_link, MemNetState, FollowsSchedule, net_state, start_net, link_of, RouteTable, AreReplies, HubState, server, IsTable, table_of, Settled, report, AreThere, backlog_at, there_first, intake_at, Intakes, kept_at_first, Runs, Beginning, IsRight, IsSettled, IsLivedThroughout, EndsWithTurn, AreFew, KeptAll, AreViews, no_view, IntakeView, AreNotes, IsReplayed, IsReport, AreLinks, links_of, is_turn_act, CanRun, HasRun, bus_said, routes_of_bus, bus_server, BetweenTurns, IsBetweenTurns, at_first}
 use Rattle.link_trait.specs.declared.net.NetEvent.TheVariants as event
 use Rattle.loop_runner.specs.declared.turns.Ran.TheVariants as ran
 use Rattle.ws_program.proofs.FewLemmas.{few_items}
@@ -8,8 +8,8 @@ use Rattle.ws_program.proofs.EndLemmas.{ran_stopped, ran_never_spent, ran_never_
 use Rattle.ws_program.proofs.ReplayedLemmas.{replay_all}
 
 -- what the command begins with
-abbrev pub bus_beginning : ConfigValue → RouteTable → Beginning (Unit {0})
-bus_beginning f table = record { start = tt; after = λ state _. state; said = λ _ event. bus_said event; config = f; table = table }
+abbrev pub bus_beginning : (List ℕ → Bool) → ConfigValue → RouteTable → Beginning (Unit {0})
+bus_beginning admits f table = record { start = tt; after = λ state _. state; said = λ _ event. bus_said event; admits = admits; config = f; table = table }
 
 -- there is no intake yet
 abbrev pub no_views : ℕ → IntakeView
@@ -33,17 +33,20 @@ there_at_first acts hub start told begins =
 pub views_at_first : (intakes : Intakes) → ((conn : ℕ) → intake_at intakes conn ≡ None) → AreViews intakes no_views
 views_at_first intakes none conn intake there = absurd (let z : None ≡ Some intake = sym (none conn) ∙ there in cc)
 
-pub kept_first : (f : ConfigValue) (acts : List Act) (table : RouteTable) (hub : HubState) (start : MemNetState) (recorder : RecorderState)
+pub kept_first : (admits : List ℕ → Bool) (f : ConfigValue) (acts : List Act) (table : RouteTable) (hub : HubState) (start : MemNetState) (recorder : RecorderState)
     → hub.config ≡ f → hub.entries ≡ [] → hub.pairs ≡ [] → hub.partings ≡ [] → hub.tellings ≡ [] → IsTable (table_of hub) → start ≡ start_net acts → recorder ≡ record { notes = []; whole = true }
-    → KeptAll (bus_beginning f table) (server hub (net_state start) (told_by recorder)) tt no_views None
-kept_first f acts table hub start recorder configured entries pairs partings tellings whole begins empty =
-    kept_at_first (bus_beginning f table) (server hub (net_state start) (told_by recorder)) tt no_views entries pairs partings tellings configured whole
+    → KeptAll (bus_beginning admits f table) (server hub (net_state start) (told_by recorder)) tt no_views None
+kept_first admits f acts table hub start recorder configured entries pairs partings tellings whole begins empty =
+    kept_at_first (bus_beginning admits f table) (server hub (net_state start) (told_by recorder)) tt no_views entries pairs partings tellings configured whole
     (ap told_by empty) (ap (λ (n : MemNetState). (net_state n).passed) begins) refl
 
-pub between_first : (recorder : RecorderState) → recorder ≡ record { notes = []; whole = true } → IsBetweenTurns (told_by recorder)
-between_first recorder empty notes is =
-    let none : [] ≡ notes = let z : Some [] ≡ Some notes = sym (ap told_by empty) ∙ is in cc in
+pub between_none : (told : Option (List NoteValue)) → told ≡ Some [] → IsBetweenTurns told
+between_none told empty notes is =
+    let none : [] ≡ notes = let z : Some [] ≡ Some notes = sym empty ∙ is in cc in
     subst BetweenTurns none at_first
+
+pub between_first : (recorder : RecorderState) → recorder ≡ record { notes = []; whole = true } → IsBetweenTurns (told_by recorder)
+between_first recorder empty = between_none (told_by recorder) (ap told_by empty)
 
 -- ---- after the last
 
@@ -79,24 +82,24 @@ module _ (f : ConfigValue) (acts : List Act) (hub : HubState) (net : MemNetState
         few : (p q n : ℕ) → p ≡ q + 1 → q ≤ n → n + 1 < 2 ^ 64 - 1 → p < 2 ^ 64 - 1
         few p q n all most room = omega arith
 
-    pub has_run : Settled hub → r.whole ≡ true → net.whole ≡ true → length r.notes < 2 ^ 64 → EndsWithTurn (told_by r)
-        → IsRight (bus_beginning f routes_of_bus) (server hub (net_state net) (told_by r)) tt
-        → IsSettled (bus_beginning f routes_of_bus) (server hub (net_state net) (told_by r)) → IsLivedThroughout (bus_beginning f routes_of_bus) (server hub (net_state net) (told_by r))
-        → AreNotes r.notes → AreLinks (links_of (backlog_at hub) (net_state net).taken r.notes) → HasRun f acts hub net r
-    has_run settled kept whole short last right rests lived notes links = record { settled = settled; reports = all }
+    pub has_run : (admits : List ℕ → Bool) → Settled hub → r.whole ≡ true → net.whole ≡ true → length r.notes < 2 ^ 64 → EndsWithTurn (told_by r)
+        → IsRight (bus_beginning admits f routes_of_bus) (server hub (net_state net) (told_by r)) tt
+        → IsSettled (bus_beginning admits f routes_of_bus) (server hub (net_state net) (told_by r)) → IsLivedThroughout (bus_beginning admits f routes_of_bus) (server hub (net_state net) (told_by r))
+        → AreNotes r.notes → AreLinks (links_of (backlog_at hub) (net_state net).taken r.notes) → HasRun admits f acts hub net r
+    has_run admits settled kept whole short last right rests lived notes links = record { settled = settled; reports = all }
       where
         told : told_by r ≡ Some r.notes
         told = ap (λ b. cond b (Some r.notes) None) kept
 
-        few : (replies : ℕ → List ℕ) → AreFew (bus_server replies) r.notes
-        few replies front behind split d = let ends = last r.notes told in few_items replies r.notes front behind ends.0 ends.1 short split d
+        few : (replies : ℕ → List ℕ) → AreFew (bus_server admits replies) r.notes
+        few replies front behind split d = let ends = last r.notes told in few_items admits replies r.notes front behind ends.0 ends.1 short split d
 
-        replayed : (replies : ℕ → List ℕ) → AreReplies routes_of_bus r.notes (net_state net).given replies → IsReplayed f routes_of_bus acts r.notes (net_state net) (backlog_at hub) replies
+        replayed : (replies : ℕ → List ℕ) → AreReplies routes_of_bus r.notes (net_state net).given replies → IsReplayed admits f routes_of_bus acts r.notes (net_state net) (backlog_at hub) replies
         replayed replies agree =
-            subst (λ (xs : List Act). IsReplayed f routes_of_bus xs r.notes (net_state net) (backlog_at hub) replies) acts_are
-            (replay_all f routes_of_bus r.notes net (backlog_at hub) replies (right.right r.notes told refl replies agree (few replies)) follows whole ended.0 (rests r.notes told refl replies agree (few replies)) (lived r.notes told refl replies agree (few replies)))
+            subst (λ (xs : List Act). IsReplayed admits f routes_of_bus xs r.notes (net_state net) (backlog_at hub) replies) acts_are
+            (replay_all admits f routes_of_bus r.notes net (backlog_at hub) replies (right.right r.notes told refl replies agree (few replies)) follows whole ended.0 (rests r.notes told refl replies agree (few replies)) (lived r.notes told refl replies agree (few replies)))
 
-        all : IsReport f routes_of_bus acts (report r.notes (links_of (backlog_at hub) (net_state net).taken r.notes))
+        all : IsReport admits f routes_of_bus acts (report r.notes (links_of (backlog_at hub) (net_state net).taken r.notes))
         all = record {
           notes = r.notes;
           net = net;

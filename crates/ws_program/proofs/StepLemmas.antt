@@ -1,5 +1,5 @@
 -- What becomes of one step.
-use Rattle.ws_program.proofs.Below.{◌≡◌, ℕ, true, false, List, ◌++◌, length, Option, None, Some, refl, sym, ap, subst, ◌∙◌, append-nil, Bor, AppendsFront, Kind, Begins, Pong, frame, spelled, close_item, Step, events_of, IsMore, Answered, Passes, Puts, AnswersStep, answers_to}
+use Rattle.ws_program.proofs.Below.{◌≡◌, ℕ, true, false, List, ◌++◌, Option, refl, sym, subst, append-nil, Bor, AppendsFront, Kind, Begins, Pong, frame, spelled, close_item, Step, events_of, IsMore, Answered, Passes, Puts, AnswersStep, answers_to}
 use Rattle.frame_reader.specs.declared.step.Step.TheVariants as step
 use Rattle.frame_reader.specs.Step.{is_last}
 use Rattle.ws_program.specs.declared.answers.Answered.TheVariants as answered

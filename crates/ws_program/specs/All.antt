@@ -32,15 +32,17 @@ pub use Rattle.loop_runner.specs.All.{intake_at, AreFew, AreViews, Beginning, En
 pub use Rattle.loop_runner.specs.declared.intakes.Intakes.{Intakes}
 pub use Rattle.command_words.specs.Meaning.{Text, may_stand, meant}
 pub use Rattle.command_words.specs.declared.command.Command.{Command}
-pub use Rattle.command_words.specs.declared.command.Command.TheVariants.{Echo, Made, Replay}
+pub use Rattle.command_words.specs.declared.command.Command.TheVariants.{Echo, Made, Replay, Serve}
 pub use Rattle.ws_program.specs.Answers.{Answers, AnswersAll, AnswersNext, AnswersOctets, AnswersStep, CountsFaults, GoesOn, Passes, Puts, answers_to}
 pub use Rattle.ws_program.specs.BusServer.{bus_server}
 pub use Rattle.ws_program.specs.Echo.{EchoEnds, EchoesAll, EchoesFront, EndsDone, EndsPast, EndsTooLong, ReadsNoFurther, RefusesTooLong, has_ended, max_input, max_read}
 pub use Rattle.ws_program.specs.Replay.{AnswersSchedule, AnswersText, CanRun, GivesAll, HasRun, IsRefusal, IsReportOfText, IsTaken, RefusesAs, ReplayEnds, ReplaysAll, ReplaysFront, StopsReading, WritesNothing}
 pub use Rattle.ws_program.specs.Replayed.{AreLinks, IsNew, IsReplayed, IsReport, all_link_lines, is_end_of, is_fault_of, is_stop, is_turn_act, links_of}
+pub use Rattle.ws_program.specs.NewServer.{IsNewServer}
+pub use Rattle.ws_program.specs.Serve.{AreNotesOf, EndsTurns, FailsInTurn, FailsToListen, IsRightRun, IsServed, IsUnused, LeavesSink, Outer, RunsNew, Scene, ServeEnds, ServesTo, ServesTurns, Service, WritesServed, outer, scene, served_line}
 pub use Rattle.ws_program.specs.Status.{exit_code_of}
 pub use Rattle.ws_program.specs.Streams.{Streams, TellsFaults, streams}
-pub use Rattle.ws_program.specs.Words.{IsEcho, IsNoCommand, IsReplay, RefusesWords, is_run}
+pub use Rattle.ws_program.specs.Words.{IsEcho, IsNoCommand, IsNoServer, IsReplay, IsServe, RefusesWords, is_run, is_server}
 pub use Rattle.ws_program.specs.declared.answers.Answered.{Answered}
 pub use Rattle.ws_program.specs.declared.status.Status.{Status}
-pub use Rattle.ws_program.specs.declared.status.Status.TheVariants.{Done, OutOfMemory, ReadFault, Refused, Usage, WriteFault}
+pub use Rattle.ws_program.specs.declared.status.Status.TheVariants.{Done, NetFault, OutOfMemory, ReadFault, Refused, Usage, WriteFault}

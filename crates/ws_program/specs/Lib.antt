@@ -6,4 +6,6 @@ pub mod Answers
 pub mod BusServer
 pub mod Replayed
 pub mod Replay
+pub mod NewServer
+pub mod Serve
 pub mod All

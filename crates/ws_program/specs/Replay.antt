@@ -1,5 +1,5 @@
 -- What a replay did: the schedule that it read, and the report of the schedule's run that it wrote.
-use Rattle.std.specs.Prelude.{◌≡◌, ◌≤◌, ◌<◌, ◌⊎◌, ◌≢◌, ⊤, ℕ, List, [], Option, Some, true, false, length}
+use Rattle.std.specs.Prelude.{◌≡◌, ◌≤◌, ◌<◌, ◌⊎◌, ◌≢◌, ⊤, ℕ, List, Option, Some, Bool, true, false, length}
 use Rattle.std.specs.Io.KnownBytes.{Appends, Consumes, IsAtEnd}
 use Rattle.ws_kinds.specs.ConfigValue.{ConfigValue}
 use Rattle.ws_kinds.specs.Recorder.{RecorderState}
@@ -22,23 +22,23 @@ use Rattle.ws_program.specs.declared.status.Status.TheVariants.{Done, Usage, Ref
 use Rattle.ws_program.specs.Streams.{Streams, TellsFaults}
 
 -- the octets that came are the text of a schedule, and the others are the report of its run
-pub record IsReportOfText (config : ConfigValue) (came text : List ℕ) : Type 0 where
+pub record IsReportOfText (admits : List ℕ → Bool) (config : ConfigValue) (came text : List ℕ) : Type 0 where
   pub acts : List Act
   pub schedule : IsText came acts
-  pub reports : IsReport config routes_of_bus acts text
+  pub reports : IsReport admits config routes_of_bus acts text
 
 -- In what follows, `left` and `left'` are what the source tells as left before and after, and `written` and `written'`
 -- what the sink tells as written. `came` are the octets that were read.
 
 -- the source was read to its end, and the report of the run of its schedule is written
-abbrev pub ReplaysAll : ConfigValue → (left left' written written' : Option (List ℕ)) → Type 0
-ReplaysAll config left left' written written' =
-    (came : List ℕ) × (text : List ℕ) × Consumes left left' came × IsAtEnd left' × IsReportOfText config came text × Appends written written' text
+abbrev pub ReplaysAll : (List ℕ → Bool) → ConfigValue → (left left' written written' : Option (List ℕ)) → Type 0
+ReplaysAll admits config left left' written written' =
+    (came : List ℕ) × (text : List ℕ) × Consumes left left' came × IsAtEnd left' × IsReportOfText admits config came text × Appends written written' text
 
 -- the same, but that a front of the report is written
-abbrev pub ReplaysFront : ConfigValue → (left left' written written' : Option (List ℕ)) → Type 0
-ReplaysFront config left left' written written' =
-    (came : List ℕ) × (text : List ℕ) × Consumes left left' came × IsAtEnd left' × IsReportOfText config came text × AppendsFront written written' text
+abbrev pub ReplaysFront : (List ℕ → Bool) → ConfigValue → (left left' written written' : Option (List ℕ)) → Type 0
+ReplaysFront admits config left left' written written' =
+    (came : List ℕ) × (text : List ℕ) × Consumes left left' came × IsAtEnd left' × IsReportOfText admits config came text × AppendsFront written written' text
 
 -- the octets that were read are refused so
 abbrev pub IsRefusal : ℕ → Fault → (left left' : Option (List ℕ)) → Type 0
@@ -64,11 +64,11 @@ IsTaken status = ⊤
 
 -- How a run of the command `replay` ends, by its status and by what source and sink told before it and after it. Later
 -- clauses of the program cite this record alone.
-pub record ReplayEnds (config : ConfigValue) (status : Status) (old new : Streams) : Type 0 where
+pub record ReplayEnds (admits : List ℕ → Bool) (config : ConfigValue) (status : Status) (old new : Streams) : Type 0 where
   -- it is done where the source was read to its end, and the report of the run of its schedule is written
-  pub done : status ≡ Done → ReplaysAll config old.left new.left old.written new.written
+  pub done : status ≡ Done → ReplaysAll admits config old.left new.left old.written new.written
   -- before a fault of the sink a front of the report is written
-  pub write_fault : status ≡ WriteFault → ReplaysFront config old.left new.left old.written new.written
+  pub write_fault : status ≡ WriteFault → ReplaysFront admits config old.left new.left old.written new.written
   -- what is refused broke that rule first, in that line
   pub refused : (line : ℕ) (fault : Fault) → status ≡ Refused line fault → IsRefusal line fault old.left new.left
   -- with every other status nothing is written
@@ -96,9 +96,9 @@ pub record CanRun (acts : List Act) : Type 0 where
   pub few : length acts ≤ 1048576
 
 -- what there is after a run of these acts: what can be written of it is its report
-pub record HasRun (config : ConfigValue) (acts : List Act) (hub : HubState) (net : MemNetState) (recorder : RecorderState) : Type 0 where
+pub record HasRun (admits : List ℕ → Bool) (config : ConfigValue) (acts : List Act) (hub : HubState) (net : MemNetState) (recorder : RecorderState) : Type 0 where
   pub settled : Settled hub
-  pub reports : IsReport config routes_of_bus acts (report recorder.notes (links_of (backlog_at hub) (net_state net).taken recorder.notes))
+  pub reports : IsReport admits config routes_of_bus acts (report recorder.notes (links_of (backlog_at hub) (net_state net).taken recorder.notes))
 
 -- the source gave octets to its end, or more than a text has, without a fault
 abbrev pub GivesAll : List ℕ → (left left' : Option (List ℕ)) → (faults faults' : ℕ) → Type 0
@@ -111,16 +111,16 @@ StopsReading OutOfMemory faults faults' = faults' ≡ faults
 StopsReading status faults faults' = ⊥
 
 -- what becomes of a schedule: its run is reported, or a front of the report is written, or nothing
-abbrev pub AnswersSchedule : ConfigValue → List Act → Status → (written written' : Option (List ℕ)) → (faults faults' : ℕ) → Type 0
-AnswersSchedule config acts Done written written' faults faults' =
-    (text : List ℕ) × IsReport config routes_of_bus acts text × WritesText text written written' faults faults' true
-AnswersSchedule config acts WriteFault written written' faults faults' =
-    (text : List ℕ) × IsReport config routes_of_bus acts text × WritesText text written written' faults faults' false
-AnswersSchedule config acts OutOfMemory written written' faults faults' = (written' ≡ written) × (faults' ≡ faults)
-AnswersSchedule config acts status written written' faults faults' = ⊥
+abbrev pub AnswersSchedule : (List ℕ → Bool) → ConfigValue → List Act → Status → (written written' : Option (List ℕ)) → (faults faults' : ℕ) → Type 0
+AnswersSchedule admits config acts Done written written' faults faults' =
+    (text : List ℕ) × IsReport admits config routes_of_bus acts text × WritesText text written written' faults faults' true
+AnswersSchedule admits config acts WriteFault written written' faults faults' =
+    (text : List ℕ) × IsReport admits config routes_of_bus acts text × WritesText text written written' faults faults' false
+AnswersSchedule admits config acts OutOfMemory written written' faults faults' = (written' ≡ written) × (faults' ≡ faults)
+AnswersSchedule admits config acts status written written' faults faults' = ⊥
 
 -- what becomes of a text
-abbrev pub AnswersText : ConfigValue → List ℕ → Status → (written written' : Option (List ℕ)) → (faults faults' : ℕ) → Type 0
-AnswersText config octets (Refused line fault) written written' faults faults' = IsRefused octets line fault × (written' ≡ written) × (faults' ≡ faults)
-AnswersText config octets OutOfMemory written written' faults faults' = (written' ≡ written) × (faults' ≡ faults)
-AnswersText config octets status written written' faults faults' = (acts : List Act) × IsText octets acts × AnswersSchedule config acts status written written' faults faults'
+abbrev pub AnswersText : (List ℕ → Bool) → ConfigValue → List ℕ → Status → (written written' : Option (List ℕ)) → (faults faults' : ℕ) → Type 0
+AnswersText admits config octets (Refused line fault) written written' faults faults' = IsRefused octets line fault × (written' ≡ written) × (faults' ≡ faults)
+AnswersText admits config octets OutOfMemory written written' faults faults' = (written' ≡ written) × (faults' ≡ faults)
+AnswersText admits config octets status written written' faults faults' = (acts : List Act) × IsText octets acts × AnswersSchedule admits config acts status written written' faults faults'

@@ -53,20 +53,20 @@ pub record IsNew (net : MemNetState) (old : NetState) : Type 0 where
 
 -- The notes, the net and what is held for each connection, with these texts of replies: all acts were done, the run is right, and
 -- all is settled.
-pub record IsReplayed (config : ConfigValue) (table : RouteTable) (acts : List Act) (notes : List NoteValue) (net : NetState) (held : ℕ → List ℕ) (replies : ℕ → List ℕ) : Type 0 where
-  pub right : Right (bus_server replies) config table notes net tt held
-  pub settled : Settled (bus_server replies) notes net (record { pending = 0; gathered = []; backlog = held })
+pub record IsReplayed (admits : List ℕ → Bool) (config : ConfigValue) (table : RouteTable) (acts : List Act) (notes : List NoteValue) (net : NetState) (held : ℕ → List ℕ) (replies : ℕ → List ℕ) : Type 0 where
+  pub right : Right (bus_server admits replies) config table notes net tt held
+  pub settled : Settled (bus_server admits replies) notes net (record { pending = 0; gathered = []; backlog = held })
   -- at the end of each turn, what was heard of each connection is what the octets say that were given until then
-  pub throughout : LivedThroughout (bus_server replies) table config.max_message notes net.given
+  pub throughout : LivedThroughout (bus_server admits replies) table config.max_message notes net.given
   -- a connection that is still read was given all of its octets, and no act ends them
-  pub given : (conn : ℕ) → is_reading (phase (bus_server replies) notes conn) ≡ true → net.given conn ≡ sent conn acts
-  pub unended : (conn : ℕ) → is_reading (phase (bus_server replies) notes conn) ≡ true → list_any (is_ending conn) acts ≡ false
+  pub given : (conn : ℕ) → is_reading (phase (bus_server admits replies) notes conn) ≡ true → net.given conn ≡ sent conn acts
+  pub unended : (conn : ℕ) → is_reading (phase (bus_server admits replies) notes conn) ≡ true → list_any (is_ending conn) acts ≡ false
   -- a connection is gone by the peer's end only where an act says so and all of its octets were given, and by a failed link only
   -- where an act says so
   pub ended : (conn : ℕ) → is_accepted conn notes ≡ true → is_gone_by_in conn PeerEnd notes ≡ true → (list_any (is_end_of conn) acts ≡ true) × (net.given conn ≡ sent conn acts)
   pub failed : (conn : ℕ) → is_accepted conn notes ≡ true → is_gone_by_in conn LinkFailed notes ≡ true → list_any (is_fault_of conn) acts ≡ true
   -- while octets are held for a connection that is not gone, its link took exactly its credit and all room that it got
-  pub short : (conn : ℕ) → is_accepted conn notes ≡ true → is_gone_phase (phase (bus_server replies) notes conn) ≡ false → held conn ≢ [] → credit_of conn acts ≡ Some (length (net.taken conn))
+  pub short : (conn : ℕ) → is_accepted conn notes ≡ true → is_gone_phase (phase (bus_server admits replies) notes conn) ≡ false → held conn ≢ [] → credit_of conn acts ≡ Some (length (net.taken conn))
 
 -- the links of the connections that were accepted, in order: how many octets are held, and those that were taken
 abbrev pub links_of : (ℕ → List ℕ) → (ℕ → List ℕ) → List NoteValue → List Link
@@ -81,7 +81,7 @@ abbrev pub all_link_lines : List Link → List ℕ
 all_link_lines links = flat_map (λ link. link_line link.conn link.held link.octets) links
 
 -- these octets are the report of a run of these acts, over a net in memory of which all acts were done, and then nothing more came
-pub record IsReport (config : ConfigValue) (table : RouteTable) (acts : List Act) (octets : List ℕ) : Type 0 where
+pub record IsReport (admits : List ℕ → Bool) (config : ConfigValue) (table : RouteTable) (acts : List Act) (octets : List ℕ) : Type 0 where
   pub notes : List NoteValue
   pub net : MemNetState
   pub held : ℕ → List ℕ
@@ -97,4 +97,4 @@ pub record IsReport (config : ConfigValue) (table : RouteTable) (acts : List Act
   pub passed : (net_state net).passed ≡ passes acts ++ event.Stop ∷ []
   -- there are texts of replies that agree with the judging, and for all of them the run is as it should be
   pub texts : HasReplies table notes (net_state net).given
-  pub run : (replies : ℕ → List ℕ) → AreReplies table notes (net_state net).given replies → IsReplayed config table acts notes (net_state net) held replies
+  pub run : (replies : ℕ → List ℕ) → AreReplies table notes (net_state net).given replies → IsReplayed admits config table acts notes (net_state net) held replies

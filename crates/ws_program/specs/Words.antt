@@ -5,7 +5,8 @@ use Rattle.std.specs.List.{list_all}
 use Rattle.ws_kinds.specs.ConfigValue.{ConfigValue}
 use Rattle.command_words.specs.Meaning.{may_stand, meant}
 use Rattle.command_words.specs.declared.command.Command.{Command}
-use Rattle.command_words.specs.declared.command.Command.TheVariants.{Echo, Replay, Made}
+use Rattle.command_words.specs.declared.command.Command.TheVariants.{Echo, Replay, Made, Serve}
+use Rattle.ws_program.specs.Serve.{Service}
 use Rattle.ws_program.specs.declared.status.Status.{Status}
 use Rattle.ws_program.specs.declared.status.Status.TheVariants.{Usage, OutOfMemory}
 
@@ -17,16 +18,32 @@ IsEcho max_message words = meant (map string_bytes words) ≡ Some (Echo max_mes
 abbrev pub IsReplay : {A : Type 0} → ConfigValue → List (String A) → Type 0
 IsReplay config words = meant (map string_bytes words) ≡ Some (Replay config)
 
+-- `serve`, with these numbers of its server, this port and this greatest number of turns
+abbrev pub IsServe : {A : Type 0} → Service → List (String A) → Type 0
+IsServe asked words = meant (map string_bytes words) ≡ Some (Serve asked.config asked.port asked.turns)
+
 -- the program runs it
 abbrev pub is_run : Option Command → Bool
 is_run None = false
 is_run (Some (Echo max_message)) = true
 is_run (Some (Replay config)) = true
+is_run (Some (Serve config port turns)) = true
 is_run (Some (Made seed)) = false
 
 -- the words mean no command that the program runs
 abbrev pub IsNoCommand : {A : Type 0} → List (String A) → Type 0
 IsNoCommand words = is_run (meant (map string_bytes words)) ≡ false
+
+-- the words ask for a server over the net
+abbrev pub is_server : Option Command → Bool
+is_server None = false
+is_server (Some (Echo max_message)) = false
+is_server (Some (Replay config)) = false
+is_server (Some (Serve config port turns)) = true
+is_server (Some (Made seed)) = false
+
+abbrev pub IsNoServer : {A : Type 0} → List (String A) → Type 0
+IsNoServer words = is_server (meant (map string_bytes words)) ≡ false
 
 -- How a run of such words ends. That there was too little memory to read them is told only where each of them may stand in a
 -- command line.

@@ -8,19 +8,35 @@ mod reads;
 mod replay;
 mod report;
 mod runs;
+mod serve;
 mod status;
 
+ghost use Rattle.std.specs.Prelude.{◌≡◌, codes};
+
 use commands::ws_run;
-use link_trait::{StdSink, StdSource};
+use link_trait::{Outside, StdSink, StdSource};
+use mio_net::LiveNet;
 use status::Status;
 use std::env;
 use std::io::ErrorKind;
 use std::process::ExitCode;
+use topic_guard::{TopicGuard, TopicRule};
+use ws_kinds::{Counter, Name, Tally};
 
 #[cfg(test)]
 mod tests;
 
-/// Runs the words of the command line over standard input and output. Words that are not UTF-8 name no command.
+/// The name with which topics begin that no peer may subscribe to.
+fn reserved() -> Name
+    ensures { result.items ≡ codes "$" }
+{
+    let mut name = Name::new();
+    name.push(b'$');
+    name
+}
+
+/// Runs the words of the command line over standard input and output, and over the sockets of this machine. Words that are not UTF-8
+/// name no command. Topics that begin with `$` are not for peers.
 fn status_of(rt: &HostRuntime) -> Status {
     let arguments = match env::args(rt) {
         Ok(arguments) => arguments,
@@ -30,9 +46,21 @@ fn status_of(rt: &HostRuntime) -> Status {
     let Ok(words) = arguments.skip(1).collect::<Vec<String>>(rt.alloc()) else {
         return Status::OutOfMemory;
     };
+    let Ok(net) = LiveNet::new(*rt, rt.alloc()) else {
+        return Status::OutOfMemory;
+    };
+    let Ok(test) = Box::new(rt.alloc(), |topic: &[u8]| !topic.starts_with(b"$")) else {
+        return Status::OutOfMemory;
+    };
+    let guard = TopicGuard::new(TopicRule::Except(reserved()), test);
     let mut source = StdSource::new(rt.stdin());
     let mut sink = StdSink::new(rt.stdout());
-    ws_run(rt.alloc(), &words, &mut source, &mut sink)
+    let mut out = Outside {
+        net,
+        watch: Counter::new(),
+        tally: Tally::new(),
+    };
+    ws_run(rt.alloc(), &words, &mut source, &mut sink, &mut out, guard)
 }
 
 fn main(rt: HostRuntime) -> ExitCode {

@@ -5,6 +5,7 @@ ghost use Rattle.std.specs.List.{count_by};
 ghost use Rattle.ws_kinds.specs.Ranges.{AreNotes};
 ghost use Rattle.link_trait.specs.Link.{TellsAlike};
 ghost use Rattle.mem_net.specs.MemNet.{FollowsSchedule};
+ghost use Rattle.topic_guard.specs.Admits.{admits};
 ghost use Rattle.ws_program.specs.Replayed.{is_turn_act};
 ghost use Rattle.schedule_text.specs.Reading.{IsText, IsRefused};
 ghost use Rattle.ws_program.specs.Replay.{ReplayEnds, RefusesAs, IsTaken, CanRun, HasRun, GivesAll, StopsReading, AnswersSchedule, AnswersText};
@@ -20,13 +21,14 @@ use loop_runner::{Intakes, Ran, run};
 use mem_net::{MemNet, Schedule};
 use schedule_text::{Fault, ReadFault, read};
 use std::alloc::{AllocError, Global};
+use topic_guard::TopicGuard;
 use ws_kinds::{Config, Recorder, Tally};
 
 /// The most octets that are read: one more than a schedule's text may have, which shows that it is too long.
 const MAX_INPUT: usize = 1_048_577;
 
 /// Reads the text of a schedule from the source, to its end, runs it over a net in memory with the built-in handler on its
-/// three routes, and writes the report of the run to the sink: the line of each note, in order, and then the line of each
+/// three routes, where peers may subscribe to the topics that the guard allows, and writes the report of the run to the sink: the line of each note, in order, and then the line of each
 /// accepted connection's link, by ascending number.
 ///
 /// Nothing is written before the run has ended. It ends
@@ -40,13 +42,14 @@ const MAX_INPUT: usize = 1_048_577;
 pub fn replay_run<S: Source, K: Sink>(
     alloc: Global,
     config: Config,
+    guard: &TopicGuard,
     source: &mut S,
     sink: &mut K,
 ) -> Status
-    ensures { ReplayEnds config result (streams S.Source K.Sink source.old sink.old) (streams S.Source K.Sink source.new sink.new) }
+    ensures { ReplayEnds (admits guard.now.rule) config result (streams S.Source K.Sink source.old sink.old) (streams S.Source K.Sink source.new sink.new) }
 {
     match read_all(alloc, source) {
-        Ok(octets) => replay_text(alloc, config, &octets, sink),
+        Ok(octets) => replay_text(alloc, config, guard, &octets, sink),
         Err(status) => status,
     }
 }
@@ -76,13 +79,19 @@ fn read_all<S: Source>(alloc: Global, source: &mut S) -> Result<Vec<u8>, Status>
 }
 
 /// Runs the schedule of a text, and writes its report.
-fn replay_text<K: Sink>(alloc: Global, config: Config, octets: &[u8], sink: &mut K) -> Status
-    ensures answers { AnswersText config octets.now result (K.written sink.old) (K.written sink.new) (K.faults sink.old) (K.faults sink.new) }
+fn replay_text<K: Sink>(
+    alloc: Global,
+    config: Config,
+    guard: &TopicGuard,
+    octets: &[u8],
+    sink: &mut K,
+) -> Status
+    ensures answers { AnswersText (admits guard.now.rule) config octets.now result (K.written sink.old) (K.written sink.new) (K.faults sink.old) (K.faults sink.new) }
     ensures every_text { (acts : List Act) → IsText octets.now acts → IsTaken result }
     ensures every_fault { (line : ℕ) (fault : Fault) → IsRefused octets.now line fault → RefusesAs line fault result }
 {
     match read(alloc, octets) {
-        Ok(schedule) => replay_schedule(alloc, config, schedule, sink),
+        Ok(schedule) => replay_schedule(alloc, config, guard, schedule, sink),
         Err(ReadFault::Refused { line, fault }) => Status::Refused { line, fault },
         Err(ReadFault::Memory) => Status::OutOfMemory,
     }
@@ -92,13 +101,14 @@ fn replay_text<K: Sink>(alloc: Global, config: Config, octets: &[u8], sink: &mut
 fn replay_schedule<K: Sink>(
     alloc: Global,
     config: Config,
+    guard: &TopicGuard,
     schedule: Schedule,
     sink: &mut K,
 ) -> Status
     requires { CanRun schedule }
-    ensures { AnswersSchedule config schedule result (K.written sink.old) (K.written sink.new) (K.faults sink.old) (K.faults sink.new) }
+    ensures { AnswersSchedule (admits guard.now.rule) config schedule result (K.written sink.old) (K.written sink.new) (K.faults sink.old) (K.faults sink.new) }
 {
-    let Ok(replayed) = run_schedule(alloc, config, schedule) else {
+    let Ok(replayed) = run_schedule(alloc, config, guard, schedule) else {
         return Status::OutOfMemory;
     };
     if report(&replayed.hub, &replayed.net, &replayed.watch, sink) {
@@ -117,9 +127,14 @@ struct Replayed {
 }
 
 /// Runs a schedule to its end. An error says that there was too little memory, also for a note or for what a link took.
-fn run_schedule(alloc: Global, config: Config, schedule: Schedule) -> Result<Replayed, AllocError>
+fn run_schedule(
+    alloc: Global,
+    config: Config,
+    guard: &TopicGuard,
+    schedule: Schedule,
+) -> Result<Replayed, AllocError>
     requires { CanRun schedule }
-    ensures { IfOk result (λ replayed. HasRun config schedule replayed.hub replayed.net replayed.watch) }
+    ensures { IfOk result (λ replayed. HasRun (admits guard.now.rule) config schedule replayed.hub replayed.net replayed.watch) }
 {
     let turns = turns_of(schedule.acts()) as u64 + 1;
     let mut hub = Hub::new(alloc, config)?;
@@ -132,7 +147,15 @@ fn run_schedule(alloc: Global, config: Config, schedule: Schedule) -> Result<Rep
     let watch = Recorder::new(alloc);
     let tally = Tally::new();
     let mut out = Outside { net, watch, tally };
-    let ran = run(&mut hub, &mut intakes, &routes, &mut out, &mut Bus, turns);
+    let ran = run(
+        &mut hub,
+        &mut intakes,
+        &routes,
+        &mut out,
+        &mut Bus,
+        guard,
+        turns,
+    );
     if !is_whole(&out.net, &out.watch) {
         return Err(AllocError);
     }

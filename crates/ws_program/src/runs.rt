@@ -1,6 +1,6 @@
 //! Laws of runs over a net in memory. Each function says some, and does nothing.
 
-ghost use Rattle.std.specs.Prelude.{◌≡◌, ◌<◌, ◌-◌, ◌^◌, ℕ, List, [], ◌∷◌, ◌++◌, true, false, not, length};
+ghost use Rattle.std.specs.Prelude.{◌≡◌, ◌<◌, ◌-◌, ◌^◌, ℕ, List, [], ◌∷◌, ◌++◌, Bool, true, false, not, length};
 ghost use Rattle.std.specs.List.{list_all, count_by};
 ghost use Rattle.ws_kinds.specs.ConfigValue.{ConfigValue};
 ghost use Rattle.ws_kinds.specs.NoteValue as note;
@@ -24,8 +24,8 @@ ghost use Rattle.ws_program.specs.Replayed.{IsNew, IsReplayed, IsReport, links_o
 /// A note sends at most one item to each connection, and the note of a turn none: so a connection has fewer items than there are
 /// notes, where the last note is that of a turn.
 pub fn items_are_few()
-    ensures { (replies : ℕ → List ℕ) (notes front behind before : List NoteValue) → notes ≡ before ++ note.turn ∷ [] → length notes < 2 ^ 64 → notes ≡ front ++ behind →
-        (conn : ℕ) → length (plain (bus_server replies) front conn) < 2 ^ 64 - 1 }
+    ensures { (admits : List ℕ → Bool) (replies : ℕ → List ℕ) (notes front behind before : List NoteValue) → notes ≡ before ++ note.turn ∷ [] → length notes < 2 ^ 64 → notes ≡ front ++ behind →
+        (conn : ℕ) → length (plain (bus_server admits replies) front conn) < 2 ^ 64 - 1 }
 {}
 
 /// Where the answers of a net that follows its schedule end with Stop, and have no other, all acts were done, and the answers are
@@ -39,17 +39,18 @@ pub fn stopped()
 /// A run that is right and settled, over a net of which all acts were done and no write failed: each connection that is still read was
 /// given what the acts send, and no act ends it; and one is gone by its peer's end or a failed link only where an act says so.
 pub fn replayed()
-    ensures { (config : ConfigValue) (table : RouteTable) (notes : List NoteValue) (net : MemNetState) (held replies : ℕ → List ℕ) →
+    ensures { (admits : List ℕ → Bool) (config : ConfigValue) (table : RouteTable) (notes : List NoteValue) (net : MemNetState) (held replies : ℕ → List ℕ) →
         FollowsSchedule net → net.whole ≡ true → net.done ≡ length net.acts →
-        Right (bus_server replies) config table notes (net_state net) tt held →
-        LivedThroughout (bus_server replies) table config.max_message notes (net_state net).given →
-        Settled (bus_server replies) notes (net_state net) (record { pending = 0; gathered = []; backlog = held }) →
-        IsReplayed config table net.acts notes (net_state net) held replies }
+        Right (bus_server admits replies) config table notes (net_state net) tt held →
+        LivedThroughout (bus_server admits replies) table config.max_message notes (net_state net).given →
+        Settled (bus_server admits replies) notes (net_state net) (record { pending = 0; gathered = []; backlog = held }) →
+        IsReplayed admits config table net.acts notes (net_state net) held replies }
 {}
 
 /// Reports with the same text have the same notes and the same links, since these are in the ranges of their lines.
 pub fn told_by_their_text()
-    ensures { (config : ConfigValue) (table : RouteTable) (acts others : List Act) (octets : List ℕ) (one : IsReport config table acts octets) (other : IsReport config table others octets) →
+    ensures { (admits : List ℕ → Bool) (config : ConfigValue) (table : RouteTable) (acts others : List Act) (octets : List ℕ)
+        (one : IsReport admits config table acts octets) (other : IsReport admits config table others octets) →
         (one.notes ≡ other.notes) × (links_of one.held (net_state one.net).taken one.notes ≡ links_of other.held (net_state other.net).taken other.notes) }
 {}
 

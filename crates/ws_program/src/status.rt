@@ -19,6 +19,8 @@ pub enum Status {
     ReadFault,
     /// The sink had a fault.
     WriteFault,
+    /// The net had a fault.
+    NetFault,
     /// There was too little memory. Nothing was written.
     OutOfMemory,
 }
@@ -34,6 +36,7 @@ impl Status {
             Status::Refused { .. } => 3,
             Status::ReadFault => 4,
             Status::WriteFault => 5,
+            Status::NetFault => 6,
             Status::OutOfMemory => 7,
         }
     }
@@ -47,6 +50,7 @@ impl fmt::Display for Status {
             Status::Refused { line, fault } => write!(f, "line {line}: {fault}"),
             Status::ReadFault => write!(f, "read fault"),
             Status::WriteFault => write!(f, "write fault"),
+            Status::NetFault => write!(f, "network fault"),
             Status::OutOfMemory => write!(f, "out of memory"),
         }
     }

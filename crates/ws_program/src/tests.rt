@@ -4,6 +4,7 @@ mod bus;
 mod echo;
 mod leaving;
 mod replay;
+mod serve;
 mod words;
 
 use crate::status::Status;
@@ -48,6 +49,7 @@ fn statuses_have_a_text_and_a_number(rt: HostRuntime) -> Result<(), Fail> {
         (refused, "line 0: too long", 3),
         (Status::ReadFault, "read fault", 4),
         (Status::WriteFault, "write fault", 5),
+        (Status::NetFault, "network fault", 6),
         (Status::OutOfMemory, "out of memory", 7),
     ];
     for (status, text, number) in table {

@@ -10,6 +10,7 @@ use super::senders::{send_and_lose, send_to_both};
 use crate::Hub;
 use link_trait::{Net, NetEvent, Outside};
 use socket_core::Kept;
+use topic_guard::TopicGuard;
 use ws_kinds::{Conn, Kind, Order, Orders, Phase, Watch, Why};
 
 /// An order.
@@ -159,18 +160,25 @@ fn orders_of<'a>(deeds: &[Deed<'a>]) -> Orders<'a> {
 }
 
 /// Serves these orders of a connection.
-fn serve<N: Net, W: Watch>(hub: &mut Hub, out: &mut Outside<N, W>, conn: Conn, deeds: &[Deed<'_>])
+fn serve<N: Net, W: Watch>(
+    hub: &mut Hub,
+    out: &mut Outside<N, W>,
+    guard: &TopicGuard,
+    conn: Conn,
+    deeds: &[Deed<'_>],
+)
     requires ties { Ties (at N.Net W.Watch hub.old out.old) }
     ensures ties { Ties (at N.Net W.Watch hub.new out.new) }
 {
     let orders = orders_of(deeds);
-    hub.perform(out, conn, &orders);
+    hub.perform(out, guard, conn, &orders);
 }
 
 /// Subscribes a connection to each front of these octets, one after another.
 fn subscribe_to_fronts<N: Net, W: Watch>(
     hub: &mut Hub,
     out: &mut Outside<N, W>,
+    guard: &TopicGuard,
     conn: Conn,
     octets: &[u8],
 )
@@ -179,20 +187,26 @@ fn subscribe_to_fronts<N: Net, W: Watch>(
 {
     'walk: for last in 0..octets.len() {
         let topic = &octets[..=last];
-        serve(hub, out, conn, &[Deed::Join(topic)]);
+        serve(hub, out, guard, conn, &[Deed::Join(topic)]);
     }
 }
 
 /// Makes a call, where its condition holds.
-fn make<N: Net, W: Watch>(hub: &mut Hub, out: &mut Outside<N, W>, conn: Conn, call: Call<'_>)
+fn make<N: Net, W: Watch>(
+    hub: &mut Hub,
+    out: &mut Outside<N, W>,
+    guard: &TopicGuard,
+    conn: Conn,
+    call: Call<'_>,
+)
     requires ties { Ties (at N.Net W.Watch hub.old out.old) }
     ensures ties { Ties (at N.Net W.Watch hub.new out.new) }
 {
     match call {
         Call::Tick => return hub.tick(out),
         Call::Turn => return hub.end_turn(out),
-        Call::Orders(orders) => return serve(hub, out, conn, orders),
-        Call::Topics => return subscribe_to_fronts(hub, out, conn, &[97; 65]),
+        Call::Orders(orders) => return serve(hub, out, guard, conn, orders),
+        Call::Topics => return subscribe_to_fronts(hub, out, guard, conn, &[97; 65]),
         _ => {}
     }
     match hub.phase(conn) {
@@ -212,6 +226,7 @@ fn is_counted(found: Result<u64, Why>, wanted: Result<u64, Why>, stands: bool) -
 fn answers<N: Net, W: Watch>(
     hub: &mut Hub,
     out: &mut Outside<N, W>,
+    guard: &TopicGuard,
     conn: Conn,
     call: Call<'_>,
 ) -> bool
@@ -230,7 +245,7 @@ fn answers<N: Net, W: Watch>(
         }
         Call::Lose(lost) => send_and_lose(hub, out, conn, lost, Kind::Binary, b"ho"),
         other => {
-            make(hub, out, conn, other);
+            make(hub, out, guard, conn, other);
             true
         }
     }
@@ -258,21 +273,46 @@ fn come<N: Net, W: Watch>(hub: &mut Hub, out: &mut Outside<N, W>)
     arrive(hub, out);
 }
 
-/// Takes in six connections and makes these calls. The answer is the place of the first one that is answered otherwise.
+/// Makes these calls, with this guard of topics. The answer is the place of the first one that is answered otherwise.
+fn make_each<N: Net, W: Watch>(
+    hub: &mut Hub,
+    out: &mut Outside<N, W>,
+    guard: &TopicGuard,
+    calls: &[(Conn, Call<'_>)],
+) -> Option<usize>
+    requires ties { Ties (at N.Net W.Watch hub.old out.old) }
+    ensures ties { Ties (at N.Net W.Watch hub.new out.new) }
+{
+    'walk: for (place, (conn, call)) in calls.iter().enumerate() {
+        if !answers(hub, out, guard, *conn, *call) {
+            return Some(place);
+        }
+    }
+    None
+}
+
+/// Calls, with the guard of topics that is lent to them.
+#[derive(Clone, Copy)]
+pub struct Part<'a> {
+    pub guard: &'a TopicGuard,
+    pub calls: &'a [(Conn, Call<'a>)],
+}
+
+/// Takes in six connections, and makes the calls of both parts. The answer is the place of the first one, in its part, that is
+/// answered otherwise.
 pub fn play<N: Net, W: Watch>(
     hub: &mut Hub,
     out: &mut Outside<N, W>,
-    calls: &[(Conn, Call<'_>)],
+    first: Part<'_>,
+    second: Part<'_>,
 ) -> Option<usize>
     requires unnamed { hub.old.named ≡ 0 }
     requires empty { hub.old.entries ≡ [] }
     ensures ties { Ties (at N.Net W.Watch hub.new out.new) }
 {
     come(hub, out);
-    'walk: for (place, (conn, call)) in calls.iter().enumerate() {
-        if !answers(hub, out, *conn, *call) {
-            return Some(place);
-        }
+    if let Some(place) = make_each(hub, out, first.guard, first.calls) {
+        return Some(place);
     }
-    None
+    make_each(hub, out, second.guard, second.calls)
 }

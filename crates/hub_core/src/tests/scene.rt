@@ -2,12 +2,13 @@
 
 ghost use Rattle.std.specs.Prelude.{◌≡◌, [], IfOk};
 
-use super::calls::{Call, play};
+use super::calls::{Call, Part, play};
 use super::failing_net::FailingNet;
 use crate::Hub;
 use link_trait::{Act, Outside};
 use mem_net::{MemNet, Schedule};
 use std::test::*;
+use topic_guard::TopicGuard;
 use ws_kinds::{Config, Conn, Left, Note, Phase, Recorder, Tally, Why};
 
 /// A note.
@@ -164,15 +165,21 @@ fn other_end(hub: &mut Hub, row: &Row<'_>) -> Option<&'static str> {
     None
 }
 
-/// What differs first from a row, if anything does.
-fn difference(rt: &HostRuntime, row: &Row<'_>) -> Result<Option<&'static str>, Fail> {
+/// What differs first from a row whose calls come behind other ones, if anything does.
+pub fn difference(
+    rt: &HostRuntime,
+    before: Part<'_>,
+    guard: &TopicGuard,
+    row: &Row<'_>,
+) -> Result<Option<&'static str>, Fail> {
+    let calls = row.calls;
     let mut out = Outside {
         net: net(rt, row.failing)?,
         watch: Recorder::new(rt.alloc()),
         tally: Tally::new(),
     };
     let mut hub = hub_of(rt, row.max_conns)?;
-    if play(&mut hub, &mut out, row.calls).is_some() {
+    if play(&mut hub, &mut out, before, Part { guard, calls }).is_some() {
         return Ok(Some("answers"));
     }
     if !is_noted(&out.watch, row.start, row.lines) {
@@ -184,13 +191,15 @@ fn difference(rt: &HostRuntime, row: &Row<'_>) -> Result<Option<&'static str>, F
     Ok(other_end(&mut hub, row))
 }
 
-/// The first row that differs, and what differs from it.
+/// The first row that differs with this guard of topics, and what differs from it.
 pub fn first_other(
     rt: &HostRuntime,
+    guard: &TopicGuard,
     rows: &[Row<'_>],
 ) -> Result<Option<(usize, &'static str)>, Fail> {
+    let nothing = Part { guard, calls: &[] };
     for (place, row) in rows.iter().enumerate() {
-        if let Some(what) = difference(rt, row)? {
+        if let Some(what) = difference(rt, nothing, guard, row)? {
             return Ok(Some((place, what)));
         }
     }

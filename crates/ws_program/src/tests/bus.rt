@@ -1,8 +1,12 @@
 //! Rooms and the bus, from the text of a schedule to the text of its report.
 
-use super::replay::{Lines, REPLY, hex_of, report_of};
+use super::replay::{Lines, REPLY, compared, hex_of, report_of};
+use super::{sink, source};
+use crate::reads::MAX_READ;
+use crate::replay::replay_run;
 use std::test::*;
-use ws_kinds::Config;
+use topic_guard::{Test, TopicGuard, TopicRule};
+use ws_kinds::{Config, Name};
 
 /// The head that a browser sends, and the reply to it, with the subprotocol of the rooms.
 const BROWSER: &[u8] =
@@ -167,8 +171,31 @@ const ROWS: &[(Lines<'static>, &str, &str)] = &[
     ),
 ];
 
+/// Subscriptions to topics that begin with `pub/`, and to others.
+const PUBLIC: &str =
+    "a 1 *\nr 1 BUS\nr 1 818600000000'+pub/a'\nr 1 818500000000'+priv'\nr 1 818500000000'+pub/'\nr 1 818400000000'+pub'\nr 1 818100000000'+'\n";
+
+/// What was not served of these, where a guard allows the topics that begin with `pub/` alone.
+fn public_report(rt: &HostRuntime) -> Result<String, Fail> {
+    let text = format!(in rt.alloc(); "corked 1\n{}", filled(rt, PUBLIC)?)?;
+    let mut source = source(rt, text.as_bytes(), MAX_READ, &[])?;
+    let mut sink = sink(rt, MAX_READ, &[])?;
+    let mut name = Name::new();
+    name.try_extend_from_slice(b"pub/").unwrap();
+    let test: Test = Box::new(rt.alloc(), |topic: &[u8]| topic.starts_with(b"pub/"))?;
+    let guard = TopicGuard::new(TopicRule::Only(name), test);
+    replay_run(rt.alloc(), Config::usual(), &guard, &mut source, &mut sink);
+    compared(rt, Lines::Orders, sink.octets())
+}
+
 #[test]
 fn rooms_and_the_bus(rt: HostRuntime) -> Result<(), Fail> {
     assert_eq!(rt; first_other(&rt, Config::usual(), ROWS)?, None);
+    let refused =
+        "unserved 1 0 forbidden\nunserved 1 0 forbidden\nunserved 1 0 badtopic\nlink 1 0 REPLY\n";
+    assert_eq!(rt;
+        public_report(&rt)?.as_str(),
+        filled(&rt, refused)?.as_str()
+    );
     Ok(())
 }

@@ -3,9 +3,11 @@
 use super::{HELLO, sink, source};
 use crate::reads::MAX_READ;
 use crate::replay::replay_run;
+use crate::reserved;
 use crate::status::Status;
 use link_trait::{Got, MemSink, MemSource, Source};
 use std::test::*;
+use topic_guard::{Test, TopicGuard, TopicRule};
 use ws_kinds::Config;
 
 /// The head of a request for an upgrade, with the key of RFC 6455, section 1.3.
@@ -166,7 +168,7 @@ struct Replay {
     sink: MemSink,
 }
 
-/// Runs the text of a schedule. The calls of the source and of the sink fail that have a 1; a write takes at most `piece`.
+/// Runs the text of a schedule, where peers subscribe to all topics but those that begin with `$`. The calls of the source and of the sink fail that have a 1; a write takes at most `piece`.
 fn run(
     rt: &HostRuntime,
     config: Config,
@@ -177,7 +179,9 @@ fn run(
 ) -> Result<Replay, Fail> {
     let mut source = source(rt, text, MAX_READ, read_fails)?;
     let mut sink = sink(rt, piece, write_fails)?;
-    let status = replay_run(rt.alloc(), config, &mut source, &mut sink);
+    let test: Test = Box::new(rt.alloc(), |topic: &[u8]| !topic.starts_with(b"$"))?;
+    let guard = TopicGuard::new(TopicRule::Except(reserved()), test);
+    let status = replay_run(rt.alloc(), config, &guard, &mut source, &mut sink);
     Ok(Replay {
         status,
         source,

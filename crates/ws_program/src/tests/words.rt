@@ -2,12 +2,16 @@
 
 use super::bus::filled;
 use super::replay::{Lines, compared};
+use super::serve::{EIGHT, net_of};
 use super::{HELLO, HELLO_ECHO, sink, source};
 use crate::commands::ws_run;
 use crate::reads::MAX_READ;
+use crate::reserved;
 use crate::status::Status;
-use link_trait::{Got, MemSink, MemSource, Source};
+use link_trait::{Got, MemSink, MemSource, Outside, Source};
 use std::test::*;
+use topic_guard::{Test, TopicGuard, TopicRule};
+use ws_kinds::{Counter, Tally};
 
 /// A run by words: how it ends, its source and its sink.
 #[derive(Drop)]
@@ -29,12 +33,19 @@ fn words_of(rt: &HostRuntime, line: &str) -> Result<Vec<String>, Fail> {
     Ok(words)
 }
 
-/// Runs the words of a line over an input.
+/// Runs the words of a line over an input, and over a net on which eight turns end and then nothing comes.
 fn run_line(rt: &HostRuntime, line: &str, input: &[u8]) -> Result<Run, Fail> {
     let words = words_of(rt, line)?;
     let mut source = source(rt, input, MAX_READ, &[])?;
     let mut sink = sink(rt, MAX_READ, &[])?;
-    let status = ws_run(rt.alloc(), &words, &mut source, &mut sink);
+    let mut out = Outside {
+        net: net_of(rt, EIGHT)?,
+        watch: Counter::new(),
+        tally: Tally::new(),
+    };
+    let test: Test = Box::new(rt.alloc(), |topic: &[u8]| !topic.starts_with(b"$"))?;
+    let guard = TopicGuard::new(TopicRule::Except(reserved()), test);
+    let status = ws_run(rt.alloc(), &words, &mut source, &mut sink, &mut out, guard);
     Ok(Run {
         status,
         source,
@@ -166,6 +177,13 @@ const REPLAYS: &[(&str, Lines<'static>, &str, &str)] = &[
         CLOSED,
         "closed 1 1000 -\nlink 1 0 REPLY880203e8\n",
     ),
+    // topics that begin with `$` are not for peers
+    (
+        "replay",
+        Lines::Orders,
+        "a 1 *\nr 1 BUS\nr 1 818200000000'+$'\nr 1 818600000000'+$/SYS'\nr 1 818500000000'+priv'\nr 1 818200000000'-$'\n",
+        "unserved 1 0 forbidden\nunserved 1 0 forbidden\nlink 1 0 REPLY\n",
+    ),
     // a connection too many is turned away
     (
         "replay --max-conns 1",
@@ -193,6 +211,24 @@ fn first_replay(
             return Ok(Some(place));
         }
         if compared(rt, *lines, run.sink.octets())? != filled(rt, report)? {
+            return Ok(Some(place));
+        }
+    }
+    Ok(None)
+}
+
+/// Words, and what is written.
+const SERVES: &[(&str, &str)] = &[
+    ("serve --port 9001 --turns 8", "served 8\n"),
+    ("serve --turns=1 --limit 5 --port=1", "served 1\n"),
+    ("serve --port 65535", "served 9\n"),
+];
+
+/// The place of the first row with another end.
+fn first_serve(rt: &HostRuntime, rows: &[(&str, &str)]) -> Result<Option<usize>, Fail> {
+    for (place, (line, written)) in rows.iter().enumerate() {
+        let run = run_line(rt, line, HELLO)?;
+        if run.status != Status::Done || run.sink.octets() != written.as_bytes() {
             return Ok(Some(place));
         }
     }
@@ -246,6 +282,12 @@ const NO_COMMANDS: &[&str] = &[
     "help",
     "replay --help",
     "--version",
+    // no port, and ports and turns that are out of range
+    "serve",
+    "serve --turns 8",
+    "serve --port 0",
+    "serve --port 65536",
+    "serve --port 9001 --turns 0",
     // a command that the program does not run yet
     "made",
     "made 7",
@@ -276,6 +318,7 @@ fn first_run(rt: &HostRuntime, lines: &[&str]) -> Result<Option<usize>, Fail> {
 fn words_are_a_command_with_its_options(rt: HostRuntime) -> Result<(), Fail> {
     assert_eq!(rt; first_echo(&rt, ECHOES)?, None);
     assert_eq!(rt; first_replay(&rt, REPLAYS)?, None);
+    assert_eq!(rt; first_serve(&rt, SERVES)?, None);
     assert_eq!(rt; first_run(&rt, NO_COMMANDS)?, None);
     Ok(())
 }

@@ -1,4 +1,4 @@
-use Rattle.loop_runner.proofs.All.{◌≡◌, List, ℕ, Some, None, refl, sym, ap, ◌∙◌, subst, Judged, admit, answer_text, reply_text, raw_of, at, beginning, intake_view, view_of, KeepsOne, keep_opened, frames_of, keep_one_then, steps_then, steps_but, But}
+use Rattle.loop_runner.proofs.All.{admits, ◌≡◌, List, ℕ, Some, None, refl, sym, ap, ◌∙◌, subst, Judged, admit, answer_text, reply_text, raw_of, at, beginning, intake_view, view_of, KeepsOne, keep_opened, frames_of, keep_one_then, steps_then, steps_but, But}
 use Rattle.loop_runner.proofs.admitting.admit.Goals as goal
 
 pub read_frames-requires-clause-frames : goal.read_frames-requires-clause-frames
@@ -17,7 +17,7 @@ returns-clause-takes g c = record {
 
 pub returns-clause-kept : goal.returns-clause-kept
 returns-clause-kept g c = λ start config.
-    let b = beginning g.H.Handler start config c.args.routes.now in
+    let b = beginning g.H.Handler (admits c.args.guard.now.rule) start config c.args.routes.now in
     let intake = c.args.intake.now in
     let opened = c.enter.new.intake in
     let put : c.deref.result.now ≡ answer_text c.args.routes.now (admit c.args.admission.end c.args.admission.route c.args.admission.param.items c.args.admission.accept c.args.admission.protocol) =
@@ -29,8 +29,8 @@ returns-clause-kept g c = λ start config.
     put ∙ ap (λ (z : ℕ). answer_text c.args.routes.now (admit c.args.admission.end z c.args.admission.param.items c.args.admission.accept c.args.admission.protocol)) (sym c.enter.ensures.route)
     ∙ ap (λ (z : List ℕ). answer_text c.args.routes.now (admit c.args.admission.end c.enter.new.intake.route z c.args.admission.accept c.args.admission.protocol)) (sym c.enter.ensures.param) in
     let opens = c.open.ensures.opens in
-    let first = keep_opened (beginning g.H.Handler start config c.args.routes.now) c.args.conn.0 c.args.admission.end c.args.admission.accept c.args.admission.protocol c.deref.result.now _ opens.between _ _ _ (intake_view c.args.intake.now) (intake_view c.enter.new.intake) _ refl c.requires.phase
+    let first = keep_opened (beginning g.H.Handler (admits c.args.guard.now.rule) start config c.args.routes.now) c.args.conn.0 c.args.admission.end c.args.admission.accept c.args.admission.protocol c.deref.result.now _ opens.between _ _ _ (intake_view c.args.intake.now) (intake_view c.enter.new.intake) _ refl c.requires.phase
     judged c.requires.end c.enter.ensures.ahead text opens.proceeds opens.appends opens.state opens.served c.open.ensures.table in
-    let frames = subst (λ (z : List ℕ). KeepsOne (beginning g.H.Handler start config c.args.routes.now) c.args.conn.0 (Some c.args.conn.0) None (view_of c.enter.new.intake.reader c.enter.new.intake.route z) (view_of c.read_frames.new.reader c.enter.new.intake.route z) (at g.N.Net g.W.Watch c.open.new.hub c.open.new.out) (g.H.Handler.state c.open.new.handler) (at g.N.Net g.W.Watch c.read_frames.new.hub c.read_frames.new.out) (g.H.Handler.state c.read_frames.new.handler))
+    let frames = subst (λ (z : List ℕ). KeepsOne (beginning g.H.Handler (admits c.args.guard.now.rule) start config c.args.routes.now) c.args.conn.0 (Some c.args.conn.0) None (view_of c.enter.new.intake.reader c.enter.new.intake.route z) (view_of c.read_frames.new.reader c.enter.new.intake.route z) (at g.N.Net g.W.Watch c.open.new.hub c.open.new.out) (g.H.Handler.state c.open.new.handler) (at g.N.Net g.W.Watch c.read_frames.new.hub c.read_frames.new.out) (g.H.Handler.state c.read_frames.new.handler))
     c.as_slice.ensures.value (c.read_frames.ensures.kept c.args.routes.now start config) in
-    keep_one_then (beginning g.H.Handler start config c.args.routes.now) c.args.conn.0 _ _ _ _ _ _ _ _ _ _ _ _ first frames
+    keep_one_then (beginning g.H.Handler (admits c.args.guard.now.rule) start config c.args.routes.now) c.args.conn.0 _ _ _ _ _ _ _ _ _ _ _ _ first frames

@@ -1,4 +1,4 @@
-use Rattle.loop_runner.proofs.All.{None, sym, subst, rules, HubState, server, parting_value, KeptAll, beginning, Every, fewer_then, steps_taken, taken_fewer, taken_was, running_steps, steps_then, Steps, at, steps_same}
+use Rattle.loop_runner.proofs.All.{admits, None, sym, subst, rules, HubState, server, parting_value, KeptAll, beginning, Every, fewer_then, steps_taken, taken_fewer, taken_was, running_steps, steps_then, Steps, at, steps_same}
 use Rattle.loop_runner.proofs.closing.close_next.Goals as goal
 
 pub close-requires : goal.close-requires
@@ -21,7 +21,7 @@ returns-in-None-clause-keeps g c = record {
   kept = λ table start config views are k. (
     views,
     are,
-    subst (λ (z : HubState). KeptAll (beginning g.H.Handler start config table) (server z (g.N.Net.state c.args.out.now.net) (g.W.Watch.told c.args.out.now.watch)) (g.H.Handler.state c.args.handler.now) views None) (sym c.in-None.ensures.none) k,
+    subst (λ (z : HubState). KeptAll (beginning g.H.Handler (admits c.args.guard.now.rule) start config table) (server z (g.N.Net.state c.args.out.now.net) (g.W.Watch.told c.args.out.now.watch)) (g.H.Handler.state c.args.handler.now) views None) (sym c.in-None.ensures.none) k,
   );
 }
 

@@ -1,4 +1,4 @@
-use Rattle.loop_runner.proofs.All.{◌≡◌, Option, Some, None, false, sym, ap, ◌∙◌, subst, Phase, Open, Leaving, phase_at, has_frames, step_is_read, beginning, HasFrames, step_sound, keep_rest, frames_after, taken_after, Every, steps_same}
+use Rattle.loop_runner.proofs.All.{admits, ◌≡◌, Option, Some, None, false, sym, ap, ◌∙◌, subst, Phase, Open, Leaving, phase_at, has_frames, step_is_read, beginning, HasFrames, step_sound, keep_rest, frames_after, taken_after, Every, steps_same}
 use Rattle.loop_runner.proofs.frames.read_frame.Goals as goal
 
 pub take_open-requires-clause-sound : goal.take_open-requires-clause-sound
@@ -38,22 +38,22 @@ returns-in-Some-Open-clause-kept g c = λ table. c.take_open.ensures.kept table 
 
 pub returns-in-Some-Leaving-clause-kept : goal.returns-in-Some-Leaving-clause-kept
 returns-in-Some-Leaving-clause-kept g c = λ table.
-    c.take_leaving.ensures.kept table _ _ c.args.route c.args.param.now (step_is_read c.args.reader.now _ c.next-in-Some-Leaving.result c.next-in-Some-Leaving.follows.holds-at-none)
+    c.take_leaving.ensures.kept (admits c.args.guard.now.rule) table _ _ c.args.route c.args.param.now (step_is_read c.args.reader.now _ c.next-in-Some-Leaving.result c.next-in-Some-Leaving.follows.holds-at-none)
 
 pub returns-in-Some-Head-clause-kept : goal.returns-in-Some-Head-clause-kept
-returns-in-Some-Head-clause-kept g c = λ table start config. keep_rest (beginning g.H.Handler start config table) c.args.conn.0 c.args.route c.args.param.now c.args.reader.now _ _ c.requires.frames
+returns-in-Some-Head-clause-kept g c = λ table start config. keep_rest (beginning g.H.Handler (admits c.args.guard.now.rule) start config table) c.args.conn.0 c.args.route c.args.param.now c.args.reader.now _ _ c.requires.frames
     (ap has_frames (sym c.phase.ensures ∙ c.in-Some-Head.is ∙ ap (λ (z : Phase). Some z) c.in-Some-Head.field-0-is))
 
 pub returns-in-Some-Ending-clause-kept : goal.returns-in-Some-Ending-clause-kept
-returns-in-Some-Ending-clause-kept g c = λ table start config. keep_rest (beginning g.H.Handler start config table) c.args.conn.0 c.args.route c.args.param.now c.args.reader.now _ _ c.requires.frames
+returns-in-Some-Ending-clause-kept g c = λ table start config. keep_rest (beginning g.H.Handler (admits c.args.guard.now.rule) start config table) c.args.conn.0 c.args.route c.args.param.now c.args.reader.now _ _ c.requires.frames
     (ap has_frames (sym c.phase.ensures ∙ c.in-Some-Ending.is ∙ ap (λ (z : Phase). Some z) c.in-Some-Ending.field-0-is))
 
 pub returns-in-Some-Gone-clause-kept : goal.returns-in-Some-Gone-clause-kept
-returns-in-Some-Gone-clause-kept g c = λ table start config. keep_rest (beginning g.H.Handler start config table) c.args.conn.0 c.args.route c.args.param.now c.args.reader.now _ _ c.requires.frames
+returns-in-Some-Gone-clause-kept g c = λ table start config. keep_rest (beginning g.H.Handler (admits c.args.guard.now.rule) start config table) c.args.conn.0 c.args.route c.args.param.now c.args.reader.now _ _ c.requires.frames
     (ap has_frames (sym c.phase.ensures ∙ c.in-Some-Gone.is ∙ ap (λ (z : Phase). Some z) c.in-Some-Gone.field-0-is))
 
 pub returns-in-None-clause-kept : goal.returns-in-None-clause-kept
-returns-in-None-clause-kept g c = λ table start config. keep_rest (beginning g.H.Handler start config table) c.args.conn.0 c.args.route c.args.param.now c.args.reader.now _ _ c.requires.frames (ap has_frames (sym c.phase.ensures ∙ c.in-None.is))
+returns-in-None-clause-kept g c = λ table start config. keep_rest (beginning g.H.Handler (admits c.args.guard.now.rule) start config table) c.args.conn.0 c.args.route c.args.param.now c.args.reader.now _ _ c.requires.frames (ap has_frames (sym c.phase.ensures ∙ c.in-None.is))
 
 pub returns-in-Some-Head-clause-steps : goal.returns-in-Some-Head-clause-steps
 returns-in-Some-Head-clause-steps g c = steps_same Every _

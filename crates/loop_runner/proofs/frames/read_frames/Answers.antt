@@ -1,4 +1,4 @@
-use Rattle.loop_runner.proofs.All.{refl, ◌∙◌, Every, beginning, steps_same, steps_then, keep_one_same, keep_one_then}
+use Rattle.loop_runner.proofs.All.{admits, refl, ◌∙◌, Every, beginning, steps_same, steps_then, keep_one_same, keep_one_then}
 use Rattle.loop_runner.proofs.frames.read_frames.Goals as goal
 
 pub steps-init : goal.steps-init
@@ -7,7 +7,7 @@ steps-init g c = record {
   ties = c.requires.ties;
   steps = steps_same Every _;
   max = refl;
-  kept = λ table start config. keep_one_same (beginning g.H.Handler start config table) _ _ _ _ _;
+  kept = λ table start config. keep_one_same (beginning g.H.Handler (admits c.args.guard.now.rule) start config table) _ _ _ _ _;
 }
 
 pub steps-preserved : goal.steps-preserved
@@ -18,7 +18,7 @@ steps-preserved g c =
       ties = next.steps.ties c.steps.invariant.ties;
       steps = steps_then Every _ _ _ c.steps.invariant.steps next.steps;
       max = next.max ∙ c.steps.invariant.max;
-      kept = λ table start config. keep_one_then (beginning g.H.Handler start config table) _ _ _ _ _ _ _ _ _ _ _ _ _ (c.steps.invariant.kept table start config) (next.kept table start config);
+      kept = λ table start config. keep_one_then (beginning g.H.Handler (admits c.args.guard.now.rule) start config table) _ _ _ _ _ _ _ _ _ _ _ _ _ (c.steps.invariant.kept table start config) (next.kept table start config);
     }
 
 pub returns-then-not-read_frame-clause-steps : goal.returns-then-not-read_frame-clause-steps
@@ -26,4 +26,4 @@ returns-then-not-read_frame-clause-steps g c = steps_then Every _ _ _ c.steps.in
 
 pub returns-then-not-read_frame-clause-kept : goal.returns-then-not-read_frame-clause-kept
 returns-then-not-read_frame-clause-kept g c = λ table start config.
-    keep_one_then (beginning g.H.Handler start config table) _ _ _ _ _ _ _ _ _ _ _ _ _ (c.steps.invariant.kept table start config) (c.if-not-read_frame.ensures.kept table start config)
+    keep_one_then (beginning g.H.Handler (admits c.args.guard.now.rule) start config table) _ _ _ _ _ _ _ _ _ _ _ _ _ (c.steps.invariant.kept table start config) (c.if-not-read_frame.ensures.kept table start config)

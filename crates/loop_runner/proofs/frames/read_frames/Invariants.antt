@@ -1,4 +1,4 @@
-use Rattle.loop_runner.proofs.Below.{◌≡◌, [], Some, length, RouteTable, ahead, phase_at, Ties, at, Every, Steps, HasFrames, view_of, moment, KeepsView}
+use Rattle.loop_runner.proofs.Below.{admits, ◌≡◌, [], Some, length, RouteTable, ahead, phase_at, Ties, at, Every, Steps, HasFrames, view_of, moment, KeepsView}
 use Rattle.frame_reader.specs.Reader.{max_of}
 use Rattle.loop_runner.proofs.frames.read_frames.Given as goal
 
@@ -10,7 +10,7 @@ invariant-steps g l =
       ties : Ties (at g.N.Net g.W.Watch l.hub l.out);
       steps : Steps Every (at g.N.Net g.W.Watch l.fn.hub l.fn.out) (at g.N.Net g.W.Watch l.hub l.out);
       max : max_of l.reader ≡ max_of l.fn.reader;
-      kept : (table : RouteTable) → KeepsView table l.conn.0 (Some l.conn.0) (Some l.conn.0) (view_of l.fn.reader l.route l.param) (view_of l.reader l.route l.param) (seen l.fn.hub l.fn.out l.fn.handler) (seen l.hub l.out l.handler);
+      kept : (table : RouteTable) → KeepsView (admits l.fn.guard.rule) table l.conn.0 (Some l.conn.0) (Some l.conn.0) (view_of l.fn.reader l.route l.param) (view_of l.reader l.route l.param) (seen l.fn.hub l.fn.out l.fn.handler) (seen l.hub l.out l.handler);
     }
 
 abbrev pub decreases-steps : goal.decreases-steps

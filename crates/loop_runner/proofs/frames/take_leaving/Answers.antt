@@ -14,29 +14,29 @@ pub returns-in-Failed-clause-last : goal.returns-in-Failed-clause-last
 returns-in-Failed-clause-last g c last = ends_reading _ _ _ _ _ c.failed.ensures (of_here c.args.conn.0) Leaving c.requires.phase refl refl
 
 pub returns-in-More-clause-kept : goal.returns-in-More-clause-kept
-returns-in-More-clause-kept g c = λ table before after route param reads start config.
-    keep_more (beginning g.H.Handler start config table) c.args.conn.0 route param before after _ _ (ap has_frames c.requires.phase) (subst (λ (z : List Event). IsRead before z after) (ap events_of c.in-More.is) reads)
+returns-in-More-clause-kept g c = λ admits table before after route param reads start config.
+    keep_more (beginning g.H.Handler admits start config table) c.args.conn.0 route param before after _ _ (ap has_frames c.requires.phase) (subst (λ (z : List Event). IsRead before z after) (ap events_of c.in-More.is) reads)
 
 pub returns-in-Message-clause-kept : goal.returns-in-Message-clause-kept
-returns-in-Message-clause-kept g c = λ table before after route param reads start config.
-    keep_passed (beginning g.H.Handler start config table) c.args.conn.0 route param before after _ _ _ c.requires.phase refl (subst (λ (z : List Event). IsRead before z after) (ap events_of c.in-Message.is) reads)
+returns-in-Message-clause-kept g c = λ admits table before after route param reads start config.
+    keep_passed (beginning g.H.Handler admits start config table) c.args.conn.0 route param before after _ _ _ c.requires.phase refl (subst (λ (z : List Event). IsRead before z after) (ap events_of c.in-Message.is) reads)
 
 pub returns-in-Ping-clause-kept : goal.returns-in-Ping-clause-kept
-returns-in-Ping-clause-kept g c = λ table before after route param reads start config.
-    keep_passed (beginning g.H.Handler start config table) c.args.conn.0 route param before after _ _ _ c.requires.phase refl (subst (λ (z : List Event). IsRead before z after) (ap events_of c.in-Ping.is) reads)
+returns-in-Ping-clause-kept g c = λ admits table before after route param reads start config.
+    keep_passed (beginning g.H.Handler admits start config table) c.args.conn.0 route param before after _ _ _ c.requires.phase refl (subst (λ (z : List Event). IsRead before z after) (ap events_of c.in-Ping.is) reads)
 
 pub returns-in-Pong-clause-kept : goal.returns-in-Pong-clause-kept
-returns-in-Pong-clause-kept g c = λ table before after route param reads start config.
-    keep_passed (beginning g.H.Handler start config table) c.args.conn.0 route param before after _ _ _ c.requires.phase refl (subst (λ (z : List Event). IsRead before z after) (ap events_of c.in-Pong.is) reads)
+returns-in-Pong-clause-kept g c = λ admits table before after route param reads start config.
+    keep_passed (beginning g.H.Handler admits start config table) c.args.conn.0 route param before after _ _ _ c.requires.phase refl (subst (λ (z : List Event). IsRead before z after) (ap events_of c.in-Pong.is) reads)
 
 pub returns-in-Close-clause-kept : goal.returns-in-Close-clause-kept
-returns-in-Close-clause-kept g c = λ table before after route param reads start config.
-    keep_close (beginning g.H.Handler start config table) c.args.conn.0 route param before after _ _ c.in-Close.code c.in-Close.reason.now _ (ap has_frames c.requires.phase)
+returns-in-Close-clause-kept g c = λ admits table before after route param reads start config.
+    keep_close (beginning g.H.Handler admits start config table) c.args.conn.0 route param before after _ _ c.in-Close.code c.in-Close.reason.now _ (ap has_frames c.requires.phase)
     (subst (λ (z : List Event). IsRead before z after) (ap events_of c.in-Close.is) reads) c.peer_close.ensures
 
 pub returns-in-Failed-clause-kept : goal.returns-in-Failed-clause-kept
-returns-in-Failed-clause-kept g c = λ table before after route param reads start config.
-    keep_failed (beginning g.H.Handler start config table) c.args.conn.0 route param before after _ _ c.in-Failed.code _ (ap has_frames c.requires.phase)
+returns-in-Failed-clause-kept g c = λ admits table before after route param reads start config.
+    keep_failed (beginning g.H.Handler admits start config table) c.args.conn.0 route param before after _ _ c.in-Failed.code _ (ap has_frames c.requires.phase)
     (subst (λ (z : List Event). IsRead before z after) (ap events_of c.in-Failed.is) reads) c.failed.ensures
 
 pub returns-in-More-clause-steps : goal.returns-in-More-clause-steps

@@ -1,4 +1,4 @@
-use Rattle.loop_runner.proofs.All.{ℕ, refl, subst, Reads, PeerEnd, LinkFailed, is_reading, phase_at, clash, beginning, But, gone_now, taken_away, count_of, front_of, keep_later, keep_gone, keep_lost, steps_then, steps_but, steps_failed, steps_notes, links_rose, steps_read}
+use Rattle.loop_runner.proofs.All.{admits, ℕ, refl, subst, Reads, PeerEnd, LinkFailed, is_reading, phase_at, clash, beginning, But, gone_now, taken_away, count_of, front_of, keep_later, keep_gone, keep_lost, steps_then, steps_but, steps_failed, steps_notes, links_rose, steps_read}
 use Rattle.link_trait.specs.declared.net.NetRead.TheVariants as NetRead
 use Rattle.loop_runner.proofs.reading.read.Goals as goal
 
@@ -39,14 +39,14 @@ returns-in-Octets-clause-kept g c = λ start config.
 
 pub returns-in-End-clause-kept : goal.returns-in-End-clause-kept
 returns-in-End-clause-kept g c = λ start config.
-    keep_gone (beginning g.H.Handler start config c.args.routes.now) c.args.conn.0 c.read.new.room c.args.hub.now (g.N.Net.state c.args.out.now.net) (g.N.Net.state c.read.new.self) (g.W.Watch.told c.args.out.now.watch) _ _ _
+    keep_gone (beginning g.H.Handler (admits c.args.guard.now.rule) start config c.args.routes.now) c.args.conn.0 c.read.new.room c.args.hub.now (g.N.Net.state c.args.out.now.net) (g.N.Net.state c.read.new.self) (g.W.Watch.told c.args.out.now.watch) _ _ _
     c.requires.reading c.in-End.ensures c.ended.ensures
 
 pub returns-in-Failed-clause-kept : goal.returns-in-Failed-clause-kept
 returns-in-Failed-clause-kept g c = λ start config.
-    keep_lost (beginning g.H.Handler start config c.args.routes.now) c.args.conn.0 c.read.new.room c.args.hub.now (g.N.Net.state c.args.out.now.net) (g.N.Net.state c.read.new.self) (g.W.Watch.told c.args.out.now.watch) _ _ _
+    keep_lost (beginning g.H.Handler (admits c.args.guard.now.rule) start config c.args.routes.now) c.args.conn.0 c.read.new.room c.args.hub.now (g.N.Net.state c.args.out.now.net) (g.N.Net.state c.read.new.self) (g.W.Watch.told c.args.out.now.watch) _ _ _
     c.requires.reading c.in-Failed.ensures c.link_failed.ensures
 
 pub returns-in-Later-clause-kept : goal.returns-in-Later-clause-kept
 returns-in-Later-clause-kept g c = λ start config.
-    keep_later (beginning g.H.Handler start config c.args.routes.now) c.args.conn.0 c.read.new.room c.args.hub.now (g.N.Net.state c.args.out.now.net) (g.N.Net.state c.read.new.self) (g.W.Watch.told c.args.out.now.watch) _ _ c.in-Later.ensures
+    keep_later (beginning g.H.Handler (admits c.args.guard.now.rule) start config c.args.routes.now) c.args.conn.0 c.read.new.room c.args.hub.now (g.N.Net.state c.args.out.now.net) (g.N.Net.state c.read.new.self) (g.W.Watch.told c.args.out.now.watch) _ _ c.in-Later.ensures

@@ -14,6 +14,6 @@ pub told-preserved : goal.told-preserved
 told-preserved g c =
     let one = c.in-Some.ensures.some in
     record {
-      keeps = keeps_on_then _ _ _ _ _ _ c.told.invariant.keeps (record { running = running_steps Every c.args.intakes.now _ _ c.told.invariant.keeps.running one.2.steps; steps = one.2.steps; kept = one.2.kept });
+      keeps = keeps_on_then _ _ _ _ _ _ _ c.told.invariant.keeps (record { running = running_steps Every c.args.intakes.now _ _ c.told.invariant.keeps.running one.2.steps; steps = one.2.steps; kept = one.2.kept });
       told = λ start owed. one.2.told start (c.told.invariant.told start owed);
     }

@@ -25,7 +25,7 @@ pub close_all-requires-2 : goal.close_all-requires-2
 close_all-requires-2 g c = record { running = c.tell_all.ensures.keeps.running }
 
 pub returns-clause-keeps : goal.returns-clause-keeps
-returns-clause-keeps g c = keeps_on_then _ _ _ _ _ _ (keeps_on_then _ _ _ _ _ _ c.close_all.ensures.keeps c.tell_all.ensures.keeps) c.close_all-2.ensures.keeps
+returns-clause-keeps g c = keeps_on_then _ _ _ _ _ _ _ (keeps_on_then _ _ _ _ _ _ _ c.close_all.ensures.keeps c.tell_all.ensures.keeps) c.close_all-2.ensures.keeps
 
 pub returns-clause-told : goal.returns-clause-told
 returns-clause-told g c =

@@ -16,11 +16,11 @@ returns g c =
       ready = ready_of c.tidy.new.intakes _ (running_tidied Every c.args.intakes.now c.tidy.new.intakes _ (running_steps Every c.args.intakes.now _ _ run steps) tidy.entries tidy.max tidy.kept) tidy.entries ended.settled;
       steps = steps;
       last = turn_last _ _ ended.ends;
-      kept = λ table answer rest before next few start config views are k. (
+      kept = λ admits table answer rest before next few start config views are k. (
         views,
         views_tidied c.args.intakes.now c.tidy.new.intakes c.end_turn.new.self views tidy.entries tidy.kept are,
-        keep_ended (beginning g.H.Handler start config table) c.args.hub.now before _ _ _ views answer _ rest next few ended.ends ended.appends ended.table ended.settled k,
+        keep_ended (beginning g.H.Handler admits start config table) c.args.hub.now before _ _ _ views answer _ rest next few ended.ends ended.appends ended.table ended.settled k,
       );
-      settled = λ table answer rest before next few start config views are k there.
-          settled_ended (beginning g.H.Handler start config table) c.args.hub.now before _ _ _ views answer _ rest next few ended.ends ended.appends ended.table ended.settled ended.ties run.waits (λ d. run.asked d (tt {0})) c.requires.none k there;
+      settled = λ admits table answer rest before next few start config views are k there.
+          settled_ended (beginning g.H.Handler admits start config table) c.args.hub.now before _ _ _ views answer _ rest next few ended.ends ended.appends ended.table ended.settled ended.ties run.waits (λ d. run.asked d (tt {0})) c.requires.none k there;
     }

@@ -1,4 +1,4 @@
-use Rattle.loop_runner.proofs.All.{[], at, moment, grows_then, links_both, turns_both, few_passes, passes_then, passes_onward, kept_then, turn_made}
+use Rattle.loop_runner.proofs.All.{admits, [], at, moment, grows_then, links_both, turns_both, few_passes, passes_then, passes_onward, kept_then, turn_made}
 use Rattle.loop_runner.proofs.turn.run_turn.Goals as goal
 
 pub events-init : goal.events-init
@@ -30,7 +30,7 @@ events-preserved g c =
       grows = grows_then _ _ _ before.grows taken.grows;
       turns = turns_both 0 0 (g.W.Watch.told c.args.out.now.watch) (g.W.Watch.told c.events.out.watch) (g.W.Watch.told c.take_event.new.out.watch) before.turns c.in-None.ensures.between.turns;
       links = links_both 0 0 0 0 (at g.N.Net g.W.Watch c.args.hub.now c.args.out.now) (at g.N.Net g.W.Watch c.events.hub c.events.out) (at g.N.Net g.W.Watch c.take_event.new.hub c.take_event.new.out) before.links taken.links passed.faults;
-      kept = kept_then c.args.routes.now c.args.intakes.now c.events.intakes c.take_event.new.intakes (moment g.N.Net g.W.Watch g.H.Handler c.args.hub.now c.args.out.now c.args.handler.now)
+      kept = kept_then (admits c.args.guard.now.rule) c.args.routes.now c.args.intakes.now c.events.intakes c.take_event.new.intakes (moment g.N.Net g.W.Watch g.H.Handler c.args.hub.now c.args.out.now c.args.handler.now)
           (moment g.N.Net g.W.Watch g.H.Handler c.events.hub c.events.out c.events.handler) (moment g.N.Net g.W.Watch g.H.Handler c.take_event.new.hub c.take_event.new.out c.take_event.new.handler)
           passed.tells (few_passes [] _ _ passed) before.kept taken.kept;
     }
@@ -38,6 +38,6 @@ events-preserved g c =
 pub returns-in-Some : goal.returns-in-Some
 returns-in-Some g c =
     let before = c.events.invariant in
-    turn_made c.args.routes.now c.in-Some.turned c.args.intakes.now c.events.intakes c.take_event.new.intakes (moment g.N.Net g.W.Watch g.H.Handler c.args.hub.now c.args.out.now c.args.handler.now)
+    turn_made (admits c.args.guard.now.rule) c.args.routes.now c.in-Some.turned c.args.intakes.now c.events.intakes c.take_event.new.intakes (moment g.N.Net g.W.Watch g.H.Handler c.args.hub.now c.args.out.now c.args.handler.now)
     (moment g.N.Net g.W.Watch g.H.Handler c.events.hub c.events.out c.events.handler) (moment g.N.Net g.W.Watch g.H.Handler c.take_event.new.hub c.take_event.new.out c.take_event.new.handler)
     before.passed before.turns before.links before.grows before.there before.told before.kept c.in-Some.ensures

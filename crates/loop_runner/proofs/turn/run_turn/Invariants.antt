@@ -1,4 +1,4 @@
-use Rattle.loop_runner.proofs.Below.{◌≡◌, ℕ, None, at, due_at, AreThere, moment, IsKeptThen, Every, Grows, NotesTurns, RisesBeyond, Running, WhereKept, PassesBetween, TellsAll}
+use Rattle.loop_runner.proofs.Below.{admits, ◌≡◌, ℕ, None, at, due_at, AreThere, moment, IsKeptThen, Every, Grows, NotesTurns, RisesBeyond, Running, WhereKept, PassesBetween, TellsAll}
 use Rattle.loop_runner.proofs.turn.run_turn.Given as goal
 
 abbrev pub invariant-events : goal.invariant-events
@@ -14,7 +14,7 @@ invariant-events g l =
       grows : Grows (at g.N.Net g.W.Watch l.fn.hub l.fn.out) (at g.N.Net g.W.Watch l.hub l.out);
       turns : NotesTurns 0 (g.W.Watch.told l.fn.out.watch) (g.W.Watch.told l.out.watch);
       links : RisesBeyond 0 0 (at g.N.Net g.W.Watch l.fn.hub l.fn.out) (at g.N.Net g.W.Watch l.hub l.out);
-      kept : WhereKept l.fn.routes l.fn.intakes old new (IsKeptThen l.intakes new);
+      kept : WhereKept (admits l.fn.guard.rule) l.fn.routes l.fn.intakes old new (IsKeptThen l.intakes new);
     }
 
 abbrev pub decreases-events : goal.decreases-events
