@@ -9,7 +9,7 @@ use Rattle.wire_meaning.specs.Reading.{reading}
 use Rattle.wire_meaning.specs.Answer.{echoed}
 use Rattle.ws_program.specs.declared.status.Status.{Status}
 use Rattle.schedule_text.specs.declared.fault.Fault.TheVariants.{TooLong}
-use Rattle.ws_program.specs.declared.status.Status.TheVariants.{Done, Usage, Refused, ReadFault, WriteFault, OutOfMemory}
+use Rattle.ws_program.specs.declared.status.Status.TheVariants.{Done, Usage, Refused, ReadFault, WriteFault, NetFault, OutOfMemory}
 use Rattle.ws_program.specs.Streams.{Streams, TellsFaults}
 
 -- the most octets that are read, 64 MiB
@@ -83,6 +83,8 @@ pub record EchoEnds (max : ℕ) (status : Status) (old new : Streams) : Type 0 w
   pub memory_writes_nothing : status ≡ OutOfMemory → new.written ≡ old.written
   -- the words were a command
   pub usage : status ≢ Usage
+  -- and no net was asked
+  pub no_net : status ≢ NetFault
   -- with every status, no more is read behind the end of the reading than one read gives, nor more than one octet beyond the limit
   pub no_further : ReadsNoFurther max old.left new.left
   -- a fault is told exactly where it was counted

@@ -18,7 +18,7 @@ use Rattle.hub_lines.specs.Calls.{Settled}
 use Rattle.run_kept.specs.Ends.{backlog_at}
 use Rattle.ws_program.specs.Replayed.{IsReport, links_of}
 use Rattle.ws_program.specs.declared.status.Status.{Status}
-use Rattle.ws_program.specs.declared.status.Status.TheVariants.{Done, Usage, Refused, ReadFault, WriteFault, OutOfMemory}
+use Rattle.ws_program.specs.declared.status.Status.TheVariants.{Done, Usage, Refused, ReadFault, WriteFault, NetFault, OutOfMemory}
 use Rattle.ws_program.specs.Streams.{Streams, TellsFaults}
 
 -- the octets that came are the text of a schedule, and the others are the report of its run
@@ -79,6 +79,8 @@ pub record ReplayEnds (admits : List ℕ → Bool) (config : ConfigValue) (statu
   pub every_fault : (octets : List ℕ) (line : ℕ) (fault : Fault) → old.left ≡ Some octets → IsRefused octets line fault → RefusesAs line fault status
   -- the words were a command
   pub usage : status ≢ Usage
+  -- and the net was one in memory, which does not fail to say what is next
+  pub no_net : status ≢ NetFault
   -- a fault is told exactly where it was counted
   pub faults : TellsFaults status old new
   -- no count of faults falls
