@@ -4,7 +4,7 @@ ghost use Rattle.std.specs.Prelude.{◌≡◌, ◌<◌, [], true, length, nat_eq
 ghost use Rattle.std.specs.Option.{option_map};
 ghost use Rattle.ws_kinds.specs.NoteValue.{NoteValue};
 ghost use Rattle.link_trait.specs.NetState.{NetState};
-ghost use Rattle.hub_lines.specs.State.{server, phase_at};
+ghost use Rattle.hub_lines.specs.State.{server, numbered_at, phase_at};
 ghost use Rattle.hub_lines.specs.Lines.{held_at, held_octets};
 ghost use Rattle.hub_lines.specs.Calls.{Ties, Settled, nothing};
 ghost use Rattle.ws_kinds.specs.NoteValue as note;
@@ -118,6 +118,14 @@ impl Hub {
         ensures { result ≡ length (held_octets (held_at self.now conn.0)) }
     {
         self.table.held(conn)
+    }
+
+    /// How many items were put for a connection, those that were dropped among them and the pending frames not. It is 0 for one that
+    /// is no entry. The count stands still at 2^64 - 1.
+    pub fn numbered(&self, conn: Conn) -> u64
+        ensures { result ≡ numbered_at self.now conn.0 }
+    {
+        self.table.numbered(conn)
     }
 
     /// How many entries there are.

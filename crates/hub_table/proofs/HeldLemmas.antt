@@ -31,3 +31,10 @@ read_held xs c x q = ap (λ (z : Connection). length z.socket.ring) (found_is xs
 
 pub none_held : (xs : List Connection) (c : ℕ) → None ≡ connection_in xs c → 0 ≡ length (entry_of (entries_of xs) c).ring
 none_held xs c q = sym (ap (λ (z : Entry). length z.ring) (none_of (entries_of xs) c (missed_is xs c q)))
+
+-- how many items were put for a connection
+pub read_count : (xs : List Connection) (c : ℕ) (x : Connection) → Some x ≡ connection_in xs c → x.socket.numbered ≡ (entry_of (entries_of xs) c).numbered
+read_count xs c x q = ap (λ (z : Connection). z.socket.numbered) (found_is xs c x q).0 ∙ sym (ap (λ (z : Entry). z.numbered) (entry_is xs c))
+
+pub none_count : (xs : List Connection) (c : ℕ) → None ≡ connection_in xs c → 0 ≡ (entry_of (entries_of xs) c).numbered
+none_count xs c q = sym (ap (λ (z : Entry). z.numbered) (none_of (entries_of xs) c (missed_is xs c q)))

@@ -228,6 +228,16 @@ impl Connections {
         }
     }
 
+    /// How many items of a connection were put, those that were dropped among them. It is 0 for one that is no entry.
+    pub fn numbered(&self, conn: Conn) -> u64
+        ensures { result ≡ (entry_of self.now.entries conn.0).numbered }
+    {
+        match self.table.get(conn) {
+            Some(connection) => connection.socket.numbered(),
+            None => 0,
+        }
+    }
+
     /// Octets of a connection that is not gone were read: its quiet ticks are counted from 0 again, unless it is leaving.
     pub fn heard(&mut self, conn: Conn)
         requires present { is_gone (entry_of self.old.entries conn.0).phase ≡ false }

@@ -3,3 +3,4 @@ pub use Rattle.made_schedule.proofs.Below.{Bool, List, None, [], ap, append_asso
 unfoldable pub use Rattle.made_schedule.proofs.Below.{state_after, messages, openings, room_head, rounds, octets_of}
 pub use Rattle.made_schedule.proofs.Sound.{IsOpenTo, made_open}
 pub use Rattle.made_schedule.proofs.Steps.{message_more, no_messages, no_openings, no_rounds, no_step, opening_more, put_more, put_none, put_three, round_more, rounds_more, step_more, steps_more}
+pub use Rattle.made_schedule.proofs.Lengths.{made_length}

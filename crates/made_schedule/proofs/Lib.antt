@@ -1,4 +1,5 @@
 pub mod Steps
 pub mod Sound
+pub mod Lengths
 pub mod Below
 pub mod All

@@ -1,4 +1,5 @@
 pub mod Generator
 pub mod Message
+pub mod Summary
 pub mod Made
 pub mod All

@@ -4,8 +4,10 @@
 mod generator;
 mod message;
 mod schedule;
+mod summary;
 
 pub use schedule::made;
+pub use summary::Summary;
 
 #[cfg(test)]
 mod tests;

@@ -1,6 +1,6 @@
 //! The acts in order.
 
-ghost use Rattle.std.specs.Prelude.{◌≡◌, ◌++◌, ◌∷◌, [], true, IfOk, OnOk};
+ghost use Rattle.std.specs.Prelude.{◌≡◌, ◌++◌, ◌∷◌, [], true, length, IfOk, OnOk};
 ghost use Rattle.mem_net.specs.Schedule.{is_sound};
 ghost use Rattle.made_schedule.specs.Generator.{state_after};
 ghost use Rattle.made_schedule.specs.Made.{made_acts, opening, openings, room_head, round, rounds};
@@ -27,10 +27,11 @@ const ROOM_HEAD: &[u8; 146] =
 /// and a turn's end follow. Each message is sent by the connection that a linear congruential generator chooses, and says the
 /// generator's state.
 ///
-/// A net in memory can follow it. An error says that there was too little memory.
+/// A net in memory can follow it. It has 8,629 acts. An error says that there was too little memory.
 pub fn made(alloc: Global, seed: u64) -> Result<Schedule, AllocError>
     ensures acts { IfOk result (λ schedule. schedule ≡ made_acts seed) }
     ensures sound { IfOk result (λ schedule. is_sound schedule ≡ true) }
+    ensures count { IfOk result (λ schedule. length schedule ≡ 8629) }
 {
     let mut schedule = Schedule::new(alloc);
     push_openings(alloc, &mut schedule)?;

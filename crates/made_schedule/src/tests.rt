@@ -168,3 +168,22 @@ fn acts_of_seed_7(rt: HostRuntime) -> Result<(), Fail> {
     assert!(rt; net.whole());
     Ok(())
 }
+
+#[test]
+fn a_summary_is_one_line(rt: HostRuntime) -> Result<(), Fail> {
+    let summary = Summary {
+        turns: 1,
+        connections: 20,
+        messages: 300,
+        items: 4_000,
+        octets: 50_000,
+        dropped: 0,
+        sum: u64::MAX,
+    };
+    let line = summary.line(rt.alloc(), 7)?;
+    assert_eq!(rt;
+        line.as_slice(),
+        b"made 7: turns 1 connections 20 messages 300 items 4000 octets 50000 dropped 0 sum 18446744073709551615\n".as_slice()
+    );
+    Ok(())
+}

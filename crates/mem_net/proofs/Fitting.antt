@@ -1,5 +1,5 @@
 -- Lemmas on links that follow the acts of a schedule.
-use Rattle.mem_net.proofs.Below.{◌≡◌, ℕ, ◌<◌, List, [], ◌∷◌, ◌++◌, ◌&&◌, ◌||◌, not, length, take, drop, Bool, true, false, nat_eq, nat_lt, refl, sym, ◌∙◌, ap, arith, append_assoc, length-append, Option, Some, None, ◌≤◌, ◌+◌, ◌-◌, ◌^◌, min, nat_le, option_map, if◌then◌else◌, nat_tests, append-nil, list_any-append, flat_map-append, take-append_seam, drop-append_seam, is_arrival, has_arrived, has_ended, is_sound_after, LinkState, is_finish, arrives, new_link, changes, failing_changed, counted, gained, sent, sent_by, finish_by, finish_of, or_then, is_fault, credit_by, credit_of, is_write_failure, writes_fail, LinkFollows, IsWithin, Takes, LinkTakes, is_short, Act, Finish, or_false, or_true, fold_push, IsChanging, Change}
+use Rattle.mem_net.proofs.Below.{◌≡◌, ℕ, ◌<◌, List, [], ◌∷◌, ◌++◌, ◌&&◌, ◌||◌, not, length, take, drop, Bool, true, false, nat_eq, nat_lt, refl, sym, ◌∙◌, ap, arith, append_assoc, length-append, Option, Some, None, ◌≤◌, ◌+◌, ◌-◌, ◌^◌, min, nat_le, option_map, if◌then◌else◌, nat_tests, append-nil, list_any-append, flat_map-append, take-append_seam, drop-append_seam, is_arrival, has_arrived, has_ended, is_sound_after, LinkState, is_finish, arrives, new_link, changes, failing_changed, counted, gained, sent, sent_by, finish_by, finish_of, or_then, is_fault, credit_by, credit_of, is_write_failure, writes_fail, LinkFollows, IsWithin, Takes, LinkTakes, is_short, was_short, Act, Finish, or_false, or_true, fold_push, IsChanging, Change}
 use Rattle.link_trait.specs.declared.act.Act.TheVariants as act
 use Rattle.mem_net.specs.declared.mem_link.Finish.TheVariants as finish
 use Rattle.mem_net.specs.declared.mem_link.Change.TheVariants as change
@@ -100,12 +100,13 @@ not_answered c before rest whole link h f =
     (later, no_answer link.answered link.finish later f.answered)
 
 -- a link that has taken nothing, once its connection arrives
-takes_first : (credit : Option ℕ) (fails : Bool) (link : LinkState) → link.failing ≡ fails → link ≡ new_link link.coming → Takes credit fails true link.writable link.failing (is_short link.writes) (counted credit) (length link.taken)
+takes_first : (credit : Option ℕ) (fails : Bool) (link : LinkState) → link.failing ≡ fails → link ≡ new_link link.coming → Takes credit fails true link.writable link.failing (is_short link.writes) (was_short link.writes) (counted credit) (length link.taken)
 takes_first credit fails link same quiet =
     let none : length link.taken ≡ 0 = ap (λ l. length l.taken) quiet in
     let whole : is_short link.writes ≡ false = ap (λ l. is_short l.writes) quiet in
+    let never : was_short link.writes ≡ false = ap (λ l. was_short l.writes) quiet in
     let writable : link.writable ≡ true = ap (λ l. l.writable) quiet in
-    record { credit_is = refl; failing_is = same; few = omega arith; within = within_none credit (length link.taken) none; full = λ l h. cc; more = λ h s f. cc }
+    record { credit_is = refl; failing_is = same; few = omega arith; within = within_none credit (length link.taken) none; full = λ l h. cc; more = λ h s f. cc; all = λ any. never }
   where
     within_none : (most : Option ℕ) (count : ℕ) → count ≡ 0 → IsWithin count most
     within_none None count e = tt
@@ -188,11 +189,11 @@ counts_more : (credit more most : ℕ) → min (min credit most + more) most ≡
 counts_more credit more most = omega arith
 
 -- a link that gains room, and one whose writes fail from now on
-takes_gain : (allowed : Option ℕ) (more : ℕ) (fails live writable failing short : Bool) (credit : Option ℕ) (count : ℕ) → 1 ≤ more → Takes allowed fails live writable failing short credit count
-    → Takes (option_map (λ octets. octets + more) allowed) fails live (writable || live) failing short (gained more credit) count
-takes_gain None more fails live writable failing short credit count some t =
-    record { credit_is = rw t.credit_is refl; failing_is = t.failing_is; few = t.few; within = tt; full = λ l w. absurd (not_both writable live l w); more = λ w s f. tt }
-takes_gain (Some most) more fails live writable failing short credit count some t =
+takes_gain : (allowed : Option ℕ) (more : ℕ) (fails live writable failing short ever : Bool) (credit : Option ℕ) (count : ℕ) → 1 ≤ more → Takes allowed fails live writable failing short ever credit count
+    → Takes (option_map (λ octets. octets + more) allowed) fails live (writable || live) failing short ever (gained more credit) count
+takes_gain None more fails live writable failing short ever credit count some t =
+    record { credit_is = rw t.credit_is refl; failing_is = t.failing_is; few = t.few; within = tt; full = λ l w. absurd (not_both writable live l w); more = λ w s f. tt; all = t.all }
+takes_gain (Some most) more fails live writable failing short ever credit count some t =
     let within = t.within in
     record {
       credit_is = rw t.credit_is (ap Some (counts_more most more (2 ^ 64 - 1)));
@@ -201,11 +202,13 @@ takes_gain (Some most) more fails live writable failing short credit count some 
       within = omega arith;
       full = λ l w. absurd (not_both writable live l w);
       more = λ w s f. omega arith;
+      all = λ any. cc;
     }
 
-takes_fail : (allowed : Option ℕ) (fails live writable failing short : Bool) (credit : Option ℕ) (count : ℕ) → Takes allowed fails live writable failing short credit count → Takes allowed true live (writable || live) true short credit count
-takes_fail allowed fails live writable failing short credit count t =
-    record { credit_is = t.credit_is; failing_is = refl; few = t.few; within = t.within; full = λ l w. absurd (not_both writable live l w); more = λ w s f. cc }
+takes_fail : (allowed : Option ℕ) (fails live writable failing short ever : Bool) (credit : Option ℕ) (count : ℕ) → Takes allowed fails live writable failing short ever credit count
+    → Takes allowed true live (writable || live) true short ever credit count
+takes_fail allowed fails live writable failing short ever credit count t =
+    record { credit_is = t.credit_is; failing_is = refl; few = t.few; within = t.within; full = λ l w. absurd (not_both writable live l w); more = λ w s f. cc; all = t.all }
 
 still_broken : (what : Change) (fault failing : Bool) → (fault || failing) ≡ true → (fault || failing_changed what failing) ≡ true
 still_broken (change.Gains more) fault failing h = h
@@ -220,13 +223,13 @@ takes_changed what c before (act.Room other more) link s sound t =
     let some : 1 ≤ more = grind (arith, nat_tests) in
     let credit : credit_of c (before ++ one ∷ []) ≡ option_map (λ octets. octets + more) (credit_of c before) = credit_push c before one ∙ rw same refl in
     let failure : writes_fail c (before ++ one ∷ []) ≡ writes_fail c before = failure_push c before one ∙ or_false (writes_fail c before) in
-    rw (credit, failure, s.1) (takes_gain (credit_of c before) more (writes_fail c before) link.live link.writable link.failing (is_short link.writes) link.credit (length link.taken) some t)
+    rw (credit, failure, s.1) (takes_gain (credit_of c before) more (writes_fail c before) link.live link.writable link.failing (is_short link.writes) (was_short link.writes) link.credit (length link.taken) some t)
 takes_changed what c before (act.WriteFails other) link s sound t =
     let one = act.WriteFails other in
     let same : nat_eq other.0 c ≡ true = grind (arith, nat_tests) in
     let credit : credit_of c (before ++ one ∷ []) ≡ credit_of c before = credit_push c before one in
     let failure : writes_fail c (before ++ one ∷ []) ≡ true = failure_push c before one ∙ or_true (writes_fail c before) (nat_eq other.0 c) same in
-    rw (credit, failure, s.1) (takes_fail (credit_of c before) (writes_fail c before) link.live link.writable link.failing (is_short link.writes) link.credit (length link.taken) t)
+    rw (credit, failure, s.1) (takes_fail (credit_of c before) (writes_fail c before) link.live link.writable link.failing (is_short link.writes) (was_short link.writes) link.credit (length link.taken) t)
 takes_changed what c before (act.Arrive other credit) link s sound t = absurd s
 takes_changed what c before (act.Octets other octets) link s sound t = absurd s
 takes_changed what c before (act.End other) link s sound t = absurd s

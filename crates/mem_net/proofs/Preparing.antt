@@ -138,7 +138,7 @@ starts acts few sound = record {
           broken = λ h. cc;
           unbroken = λ w h. cc;
           quiet = λ h. refl;
-          takes = record { credit_is = refl; failing_is = refl; few = omega arith; within = omega arith; full = λ l h. cc; more = λ w s f. cc };
+          takes = record { credit_is = refl; failing_is = refl; few = omega arith; within = omega arith; full = λ l h. cc; more = λ w s f. cc; all = λ any. refl };
         });
     passed = omega arith;
     stops = λ h. refl;

@@ -1,5 +1,5 @@
 -- What a read, a write and a shut do to a net in memory.
-use Rattle.mem_net.proofs.Below.{◌≡◌, ℕ, ◌+◌, ◌-◌, ◌^◌, ◌<◌, ◌≤◌, List, [], ◌∷◌, ◌++◌, ◌⊎◌, ◌&&◌, ◌||◌, not, length, take, drop, min, Bool, true, false, nat_lt, refl, sym, ◌∙◌, ap, arith, append_assoc, take-append-drop, length-drop, if◌then◌else◌, inl, inr, cases_lt, take-length, nat_tests, has_arrived, LinkState, is_ready, is_finish, LinkReads, faults_in_answer, Reads, Writes, Shuts, NetGivesWithin, NetGives, Ends, BreaksRead, CountsFault, CountsNetReadFaults, is_end, is_fault, MemNetState, link_at, readies_left, net_state, LinkFollows, AllTold, FollowsSchedule, Act, NetRead, NetWrote, and_right, or_true, subst, nat_le, Option, Some, None, length-append, length-take-le, fold_push, LinkWrites, counted, room_for, credit_of, writes_fail, IsWithin, Takes, TakesByActs, is_short, SameTrafficBut}
+use Rattle.mem_net.proofs.Below.{◌≡◌, ℕ, ◌+◌, ◌-◌, ◌^◌, ◌<◌, ◌≤◌, List, [], ◌∷◌, ◌++◌, ◌⊎◌, ◌&&◌, ◌||◌, not, length, take, drop, min, Bool, true, false, nat_lt, refl, sym, ◌∙◌, ap, arith, append_assoc, take-append-drop, length-drop, if◌then◌else◌, inl, inr, cases_lt, take-length, nat_tests, has_arrived, LinkState, is_ready, is_finish, LinkReads, faults_in_answer, Reads, Writes, Shuts, NetGivesWithin, NetGives, Ends, BreaksRead, CountsFault, CountsNetReadFaults, is_end, is_fault, MemNetState, link_at, readies_left, net_state, LinkFollows, AllTold, FollowsSchedule, Act, NetRead, NetWrote, and_right, or_true, subst, nat_le, Option, Some, None, length-append, length-take-le, fold_push, LinkWrites, counted, room_for, credit_of, writes_fail, IsWithin, Takes, TakesByActs, is_short, was_short, takes_less, or_false, list_any-append, SameTrafficBut}
 use Rattle.link_trait.specs.declared.net.NetRead.TheVariants as read
 use Rattle.link_trait.specs.declared.net.NetWrote.TheVariants as wrote
 use Rattle.mem_net.proofs.Moving.{Moves, moved_here, moved_same, moved_but, either}
@@ -259,9 +259,14 @@ not_short : (writable : Bool) (len n : ℕ) → (writable && nat_le len n) ≡ t
 not_short true len n w s = let most : len ≤ n = grind (arith, nat_tests) in let less : n < len = grind (arith, nat_tests) in omega arith
 not_short false len n w s = cc
 
-takes_written : (len n : ℕ) (allowed : Option ℕ) (fails live writable failing short : Bool) (credit : Option ℕ) (count : ℕ) → n ≡ room_for len credit count → count + n < 2 ^ 63 → Takes allowed fails live writable failing short credit count
-    → Takes allowed fails live (writable && nat_le len n) failing (nat_lt n len) credit (count + n)
-takes_written len n allowed fails live writable failing short credit count e few t =
+-- a link that takes any number takes all that it is offered
+never_short : (len n count : ℕ) (allowed : Option ℕ) (ever : Bool) → n ≡ room_for len (counted allowed) count → (allowed ≡ None → ever ≡ false) → allowed ≡ None → (ever || nat_lt n len) ≡ false
+never_short len n count None ever e all any = rw (all refl) (grind (arith, nat_tests))
+never_short len n count (Some most) ever e all any = cc
+
+takes_written : (len n : ℕ) (allowed : Option ℕ) (fails live writable failing short ever : Bool) (credit : Option ℕ) (count : ℕ) → n ≡ room_for len credit count → count + n < 2 ^ 63
+    → Takes allowed fails live writable failing short ever credit count → Takes allowed fails live (writable && nat_le len n) failing (nat_lt n len) (ever || nat_lt n len) credit (count + n)
+takes_written len n allowed fails live writable failing short ever credit count e few t =
     let taken : n ≡ room_for len (counted allowed) count = e ∙ ap (λ c. room_for len c count) t.credit_is in
     record {
       credit_is = t.credit_is;
@@ -270,6 +275,7 @@ takes_written len n allowed fails live writable failing short credit count e few
       within = subst (λ k. IsWithin (count + k) allowed) (sym taken) (written_within len allowed count t.within);
       full = λ l w. by_writable writable len n allowed count (t.full l) t.within taken few w;
       more = λ w s f. absurd (not_short writable len n w s);
+      all = never_short len n count allowed ever taken t.all;
     }
 
 took_fits : (c : ℕ) (done rest : List Act) (whole : Bool) (octets : List ℕ) (n : ℕ) (old new : LinkState) → old.live ≡ true → LinkWrites octets (wrote.Took n) old new → length new.taken < 2 ^ 63
@@ -280,6 +286,7 @@ took_fits c done rest whole octets n old new live w few f =
     let within : n ≤ len = rw w.1 (room_within len old.credit (length old.taken)) in
     let long : length (old.taken ++ take n octets) ≡ length old.taken + n = length-append old.taken (take n octets) ∙ ap (λ k. length old.taken + k) (length-take-le n octets within) in
     let short : is_short (old.writes ++ (len, n) ∷ []) ≡ nat_lt n len = fold_push (λ before write. nat_lt write.1 write.0) false old.writes (len, n) in
+    let ever : was_short (old.writes ++ (len, n) ∷ []) ≡ (was_short old.writes || nat_lt n len) = list_any-append takes_less old.writes ((len, n) ∷ []) ∙ ap (λ b. was_short old.writes || b) (or_false (nat_lt n len)) in
     let fits : length old.taken + n < 2 ^ 63 = rw (← long) (rw w.2 at few) in
     rw w.2 (record {
       came = f.came;
@@ -291,7 +298,7 @@ took_fits c done rest whole octets n old new live w few f =
       broken = f.broken;
       unbroken = f.unbroken;
       quiet = λ h. cc;
-      takes = rw (long, short) (takes_written len n (credit_of c done) (writes_fail c done) old.live old.writable old.failing (is_short old.writes) old.credit (length old.taken) w.1 fits f.takes);
+      takes = rw (long, short, ever) (takes_written len n (credit_of c done) (writes_fail c done) old.live old.writable old.failing (is_short old.writes) (was_short old.writes) old.credit (length old.taken) w.1 fits f.takes);
     })
 
 failed_fits : (c : ℕ) (done rest : List Act) (whole now : Bool) (octets : List ℕ) (old new : LinkState) → old.live ≡ true → LinkWrites octets wrote.Failed old new → now ≡ (whole && old.failing) → LinkFollows c done rest whole old → LinkFollows c done rest now new
@@ -412,7 +419,7 @@ shut_fits c done rest whole old new live e f =
       broken = f.broken;
       unbroken = f.unbroken;
       quiet = λ h. cc;
-      takes = record { credit_is = f.takes.credit_is; failing_is = f.takes.failing_is; few = f.takes.few; within = f.takes.within; full = λ l h. cc; more = f.takes.more };
+      takes = record { credit_is = f.takes.credit_is; failing_is = f.takes.failing_is; few = f.takes.few; within = f.takes.within; full = λ l h. cc; more = f.takes.more; all = f.takes.all };
     })
 
 pub shut_leaves : (conn i : ℕ) (old new : MemNetState) (link : LinkState) → Touches conn i old new link → link ≡ record (link_at old conn) { live = false } → (link_at old conn).live ≡ true → new.faults ≡ old.faults → new.port ≡ old.port → new.rested ≡ old.rested → Shut conn old new

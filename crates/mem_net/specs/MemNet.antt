@@ -1,6 +1,6 @@
 -- A net in memory: what it holds, what it means, and how it follows its schedule.
 use Rattle.std.specs.Prelude.{◌≡◌, ◌<◌, ◌≤◌, ◌+◌, ◌-◌, ◌^◌, ◌++◌, ◌&&◌, ◌||◌, ◌⊎◌, ℕ, List, [], ◌∷◌, Option, Some, None, Bool, true, false, nat_eq, nat_lt, slice_get, length, take, drop, max, map, replicate, if◌then◌else◌, ⊤}
-use Rattle.std.specs.List.{sum_by, fold}
+use Rattle.std.specs.List.{sum_by, fold, list_any}
 use Rattle.mem_net.specs.Schedule.{has_arrived, is_sound}
 use Rattle.mem_net.specs.Acts.{arrivals, sent, finish_of, credit_of, writes_fail, passes, event_of, is_end, is_fault}
 use Rattle.mem_net.specs.LinkState.{LinkState, new_link, counted, room_for, is_ready, is_finish}
@@ -81,9 +81,17 @@ IsBelow count (Some most) = count < most
 abbrev pub is_short : List (ℕ × ℕ) → Bool
 is_short writes = fold (λ before write. nat_lt write.1 write.0) false writes
 
+-- this write took fewer
+abbrev pub takes_less : ℕ × ℕ → Bool
+takes_less write = nat_lt write.1 write.0
+
+-- some write took fewer
+abbrev pub was_short : List (ℕ × ℕ) → Bool
+was_short writes = list_any takes_less writes
+
 -- By the acts that were done a link takes `allowed` octets in all, or any number where there is none, and its writes fail where `fails`
--- says so. It took `count` octets so far, and `short` says that its last write took fewer than it was offered.
-pub record Takes (allowed : Option ℕ) (fails live writable failing short : Bool) (credit : Option ℕ) (count : ℕ) : Type 0 where
+-- says so. It took `count` octets so far; `short` says that its last write took fewer than it was offered, and `ever` that some write did.
+pub record Takes (allowed : Option ℕ) (fails live writable failing short ever : Bool) (credit : Option ℕ) (count : ℕ) : Type 0 where
   pub credit_is : credit ≡ counted allowed
   pub failing_is : failing ≡ fails
   pub few : count < 2 ^ 63
@@ -92,9 +100,11 @@ pub record Takes (allowed : Option ℕ) (fails live writable failing short : Boo
   pub full : live ≡ true → writable ≡ false → allowed ≡ Some count
   -- one that is writable though its last write was short takes more, unless its writes fail
   pub more : writable ≡ true → short ≡ true → fails ≡ false → IsBelow count allowed
+  -- one that takes any number took all of them with each write
+  pub all : allowed ≡ None → ever ≡ false
 
 abbrev pub LinkTakes : ℕ → List Act → LinkState → Type 0
-LinkTakes conn done link = Takes (credit_of conn done) (writes_fail conn done) link.live link.writable link.failing (is_short link.writes) link.credit (length link.taken)
+LinkTakes conn done link = Takes (credit_of conn done) (writes_fail conn done) link.live link.writable link.failing (is_short link.writes) (was_short link.writes) link.credit (length link.taken)
 
 -- how the link of conn stands to the acts: those done, and those to come
 pub record LinkFollows (conn : ℕ) (done rest : List Act) (whole : Bool) (link : LinkState) : Type 0 where

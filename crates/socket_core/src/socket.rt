@@ -175,6 +175,13 @@ impl Socket {
         self.phase
     }
 
+    /// How many items were put, those that were dropped among them. The count stands still at 2^64 - 1.
+    pub fn numbered(&self) -> u64
+        ensures { result ≡ self.now.numbered }
+    {
+        self.numbered
+    }
+
     /// How many octets are held back: those that its link did not take.
     pub fn ring_length(&self) -> u64
         ensures { result ≡ length self.now.ring }

@@ -12,3 +12,6 @@ pub mod EndLemmas
 pub mod ReplayedLemmas
 pub mod Below
 pub mod All
+pub mod MadeLemmas
+pub mod UnlimitedLemmas
+pub mod StayLemmas

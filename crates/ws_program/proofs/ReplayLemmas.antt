@@ -1,5 +1,6 @@
 -- What was read of a text can be run.
 use Rattle.ws_program.proofs.Below.{◌≡◌, ◌≤◌, ◌<◌, ◌+◌, ◌++◌, ℕ, List, [], ◌∷◌, Some, None, Bool, length, ◌⊎◌, inl, inr, Option, append-nil, subst, ap, ◌∙◌, arith, rules, flat_map, length-append, Act, header, IsText, IsRefused, Fault, Consumes, IsAtEnd, ConfigValue, TellsAlike, Status, Done, Usage, Refused, ReadFault, WriteFault, NetFault, OutOfMemory, CanRun, AnswersText, IsTaken, RefusesAs, ReplaysAll, ReplaysFront, IsRefusal, ReplayEnds, Streams, spelled_some}
+use Rattle.ws_program.proofs.Below.{refl, HubState, MemNetState, net_state, RecorderState, routes_of_bus, HasRun, IsReport, links_of, backlog_at, report}
 use Rattle.schedule_text.specs.Spelling.{spelled}
 use Rattle.schedule_text.specs.declared.fault.Fault.TheVariants as fault
 use Rattle.ws_program.proofs.PassLemmas.{tells_alike_unmoved}
@@ -82,3 +83,10 @@ module _ (admits : List ℕ → Bool) (config : ConfigValue) (octets : List ℕ)
   text_ends Usage (acts, schedule, never) every_text every_fault = absurd never
   text_ends ReadFault (acts, schedule, never) every_text every_fault = absurd never
   text_ends NetFault (acts, schedule, never) every_text every_fault = absurd never
+
+-- ---- the report of a run
+
+-- what can be written of a run is its report
+pub reported : {admits : List ℕ → Bool} {config : ConfigValue} {acts : List Act} {hub : HubState} {net : MemNetState} {recorder : RecorderState} → HasRun admits config acts hub net recorder
+    → IsReport admits config routes_of_bus acts (report recorder.notes (links_of (backlog_at hub) (net_state net).taken recorder.notes))
+reported {hub = hub} {net = net} {recorder = recorder} has = record { notes = recorder.notes; net = net; held = backlog_at hub; text = refl; tells = has.is }

@@ -1,5 +1,7 @@
 -- What a run over a net in memory comes to, by what the loop says of it.
-use Rattle.ws_program.proofs.Below.{◌≡◌, ◌<◌, ◌≤◌, ◌+◌, ◌-◌, ◌^◌, ℕ, List, [], ◌∷◌, ◌++◌, Option, Some, None, Bool, true, false, cond, nat_eq, map, length, refl, sym, ap, ◌∙◌, subst, arith, count_by, length-append, ConfigValue, NoteValue, RecorderState, told_by, NetEvent, Act, passes, arrivals, sent, new_link, MemNetState, FollowsSchedule, net_state, start_net, link_of, RouteTable, AreReplies, HubState, server, IsTable, table_of, Settled, report, AreThere, backlog_at, there_first, intake_at, Intakes, kept_at_first, Runs, Beginning, IsRight, IsSettled, IsLivedThroughout, EndsWithTurn, AreFew, KeptAll, AreViews, no_view, IntakeView, AreNotes, IsReplayed, IsReport, AreLinks, links_of, is_turn_act, CanRun, HasRun, bus_said, routes_of_bus, bus_server, BetweenTurns, IsBetweenTurns, at_first}
+use Rattle.ws_program.proofs.Below.{◌≡◌, ◌<◌, ◌≤◌, ◌+◌, ◌-◌, ◌^◌, ℕ, List, [], ◌∷◌, ◌++◌, Option, Some, None, Bool, true, false, cond, nat_eq, map, length, refl, sym, ap, ◌∙◌, subst, arith, count_by, length-append, ConfigValue, NoteValue, RecorderState, told_by, NetEvent, Act, passes, arrivals, sent, new_link, MemNetState, FollowsSchedule, net_state, start_net, link_of, RouteTable, AreReplies, HubState, server, IsTable, table_of, Settled, AreThere, backlog_at, there_first, intake_at, Intakes, kept_at_first, Runs, Beginning, IsRight, IsSettled, IsLivedThroughout, EndsWithTurn, AreFew, KeptAll, AreViews, no_view, IntakeView, AreNotes, IsReplayed, IsRunOf, CountsItems, AreLinks, links_of, is_gone_phase, phase, plain, numbered_at, by_cases, append-nil, away_by_gone, there_by_phase, accepted_known, is_turn_act, CanRun, HasRun, bus_said, routes_of_bus, bus_server, BetweenTurns, IsBetweenTurns, at_first}
+use Rattle.hub_lines.specs.State.{Server, pending_at}
+use Rattle.hub_notes.specs.Progress.{Progress}
 use Rattle.link_trait.specs.declared.net.NetEvent.TheVariants as event
 use Rattle.loop_runner.specs.declared.turns.Ran.TheVariants as ran
 use Rattle.ws_program.proofs.FewLemmas.{few_items}
@@ -50,6 +52,27 @@ between_first recorder empty = between_none (told_by recorder) (ap told_by empty
 
 -- ---- after the last
 
+-- it is kept, for some views of the intakes
+abbrev pub IsKeptLast : Beginning (Unit {0}) → Server → Type 0
+IsKeptLast b s = (views : ℕ → IntakeView) × KeptAll b s tt views None
+
+-- so the hub counted the items that the notes tell of
+pub items_counted : (admits : List ℕ → Bool) (replies : ℕ → List ℕ) (f : ConfigValue) (ns : List NoteValue) (s : Server) → IsKeptLast (bus_beginning admits f routes_of_bus) s → Settled s.hub → s.told ≡ Some ns
+    → s.net.tells ≡ true → AreReplies routes_of_bus ns s.net.given replies → AreFew (bus_server admits replies) ns → CountsItems (bus_server admits replies) ns s.hub
+items_counted admits replies f ns s (views, kept) settled told tells agree few c accepted =
+    let line = (kept.holds ns told tells replies agree few).kept.agrees.lines c in
+    let shown = ap (λ (z : Progress). z.phase) line.progress in
+    by_cases (is_gone_phase (phase (bus_server admits replies) ns c))
+    (λ gone. ap (λ b. cond b (numbered_at s.hub c) 0) (away_by_gone s.hub c (phase (bus_server admits replies) ns c) shown gone) ∙ sym (ap (λ b. cond b 0 (length (plain (bus_server admits replies) ns c))) gone))
+    (λ stays.
+    let there = there_by_phase s.hub c (phase (bus_server admits replies) ns c) shown (accepted_known (bus_server admits replies) c ns accepted) stays in
+    ap (λ b. cond b (numbered_at s.hub c) 0) there
+    ∙ all_put (numbered_at s.hub c) (pending_at s.hub c) (length (plain (bus_server admits replies) ns c)) (settled.pending c) (line.count there (few ns [] (sym (append-nil ns)) c))
+    ∙ sym (ap (λ b. cond b 0 (length (plain (bus_server admits replies) ns c))) stays))
+  where
+    all_put : (n : ℕ) (waiting : List (List ℕ)) (count : ℕ) → waiting ≡ [] → n + length waiting ≡ count → n ≡ count
+    all_put n waiting count none sum = let empty : length waiting ≡ 0 = ap length none in omega arith
+
 module _ (f : ConfigValue) (acts : List Act) (hub : HubState) (net : MemNetState) (r : RecorderState) (start : MemNetState) (begins : start ≡ start_net acts) (can : CanRun acts)
     (follows : FollowsSchedule net) (same : (net_state net).schedule ≡ (net_state start).schedule) (turns : ℕ) where
   acts_are : net.acts ≡ acts
@@ -85,8 +108,13 @@ module _ (f : ConfigValue) (acts : List Act) (hub : HubState) (net : MemNetState
     pub has_run : (admits : List ℕ → Bool) → Settled hub → r.whole ≡ true → net.whole ≡ true → length r.notes < 2 ^ 64 → EndsWithTurn (told_by r)
         → IsRight (bus_beginning admits f routes_of_bus) (server hub (net_state net) (told_by r)) tt
         → IsSettled (bus_beginning admits f routes_of_bus) (server hub (net_state net) (told_by r)) → IsLivedThroughout (bus_beginning admits f routes_of_bus) (server hub (net_state net) (told_by r))
+        → IsKeptLast (bus_beginning admits f routes_of_bus) (server hub (net_state net) (told_by r))
         → AreNotes r.notes → AreLinks (links_of (backlog_at hub) (net_state net).taken r.notes) → HasRun admits f acts hub net r
-    has_run admits settled kept whole short last right rests lived notes links = record { settled = settled; reports = all }
+    has_run admits settled kept whole short last right rests lived last_kept notes links = record {
+      settled = settled;
+      is = all;
+      counts = λ replies agree. items_counted admits replies f r.notes (server hub (net_state net) (told_by r)) last_kept settled told refl agree (few replies);
+    }
       where
         told : told_by r ≡ Some r.notes
         told = ap (λ b. cond b (Some r.notes) None) kept
@@ -99,12 +127,8 @@ module _ (f : ConfigValue) (acts : List Act) (hub : HubState) (net : MemNetState
             subst (λ (xs : List Act). IsReplayed admits f routes_of_bus xs r.notes (net_state net) (backlog_at hub) replies) acts_are
             (replay_all admits f routes_of_bus r.notes net (backlog_at hub) replies (right.right r.notes told refl replies agree (few replies)) follows whole ended.0 (rests r.notes told refl replies agree (few replies)) (lived r.notes told refl replies agree (few replies)))
 
-        all : IsReport admits f routes_of_bus acts (report r.notes (links_of (backlog_at hub) (net_state net).taken r.notes))
+        all : IsRunOf admits f routes_of_bus acts r.notes net (backlog_at hub)
         all = record {
-          notes = r.notes;
-          net = net;
-          held = backlog_at hub;
-          text = refl;
           notes_in_range = notes;
           links_in_range = links;
           whole = whole;

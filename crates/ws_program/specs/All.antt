@@ -22,10 +22,12 @@ pub use Rattle.schedule_text.specs.declared.fault.Fault.TheVariants.{TooLong}
 pub use Rattle.frame_reader.specs.All.{ahead, raw_of, room_of, HasStepped, IsMore, events_of}
 pub use Rattle.frame_reader.specs.declared.reader.Reader.{Reader}
 pub use Rattle.frame_reader.specs.declared.step.Step.{Step}
+pub use Rattle.made_schedule.specs.All.{made_acts}
+pub use Rattle.made_schedule.specs.Summary.{summary_line}
 pub use Rattle.route_table.specs.All.{RouteTable}
 pub use Rattle.bus_handler.specs.All.{bus_order, bus_said, order_on, routes_of_bus}
-pub use Rattle.run_meaning.specs.All.{accepted_by, gather, is_accepted, is_gone_by_in, is_gone_in, number_of, LivedThroughout, Line, World, after_own, answered, appended, close_frame, data_frame, event_of, first_world, is_gone_phase, is_refused, line_after, noted, obey, obeyed, orders_of, phase, plain, run, step, is_gone_by, is_left, is_of, window, AreReplies, Right, Server, BetweenTurns, is_reading, at_first, frames_of}
-pub use Rattle.hub_lines.specs.All.{Settled, held_at, held_octets, Entry, HubState, entry_at, has_entry, is_gone, phase_at, ring_at, server}
+pub use Rattle.run_meaning.specs.All.{accepted_by, gather, is_accepted, is_gone_by_in, is_gone_in, number_of, total, LivedThroughout, Line, World, after_own, answered, appended, close_frame, data_frame, event_of, first_world, is_gone_phase, is_refused, line_after, noted, obey, obeyed, orders_of, phase, plain, run, step, is_gone_by, is_left, is_of, window, AreReplies, Right, Server, BetweenTurns, is_reading, at_first, frames_of}
+pub use Rattle.hub_lines.specs.All.{Settled, held_at, held_octets, Entry, HubState, entry_at, has_entry, is_gone, is_present, numbered_at, phase_at, ring_at, server}
 pub use Rattle.hub_notes.specs.All.{IsTable, table_of}
 pub use Rattle.run_kept.specs.All.{AreThere, backlog_at, IntakeView}
 pub use Rattle.loop_runner.specs.All.{intake_at, AreFew, AreViews, Beginning, EndsWithTurn, IsBetweenTurns, IsLivedThroughout, IsRight, IsSettled, KeptAll, no_view, GrowsBy, Runs, goes_on}
@@ -37,12 +39,14 @@ pub use Rattle.ws_program.specs.Answers.{Answers, AnswersAll, AnswersNext, Answe
 pub use Rattle.ws_program.specs.BusServer.{bus_server}
 pub use Rattle.ws_program.specs.Echo.{EchoEnds, EchoesAll, EchoesFront, EndsDone, EndsPast, EndsTooLong, ReadsNoFurther, RefusesTooLong, has_ended, max_input, max_read}
 pub use Rattle.ws_program.specs.Replay.{AnswersSchedule, AnswersText, CanRun, GivesAll, HasRun, IsRefusal, IsReportOfText, IsTaken, RefusesAs, ReplayEnds, ReplaysAll, ReplaysFront, StopsReading, WritesNothing}
-pub use Rattle.ws_program.specs.Replayed.{AreLinks, IsNew, IsReplayed, IsReport, all_link_lines, is_end_of, is_fault_of, is_stop, is_turn_act, links_of}
+pub use Rattle.ws_program.specs.Replayed.{AreLinks, IsNew, IsReplayed, IsReport, IsRunOf, CountsItems, all_link_lines, count_at, is_end_of, is_fault_of, is_stop, is_turn_act, items_there, links_of}
+pub use Rattle.ws_program.specs.Made.{Counts, IsSummary, IsSummaryLine, MadeEnds, WritesSummary, is_counted, is_drop, over_accepted, sums_over, with_link}
 pub use Rattle.ws_program.specs.NewServer.{IsNewServer}
 pub use Rattle.ws_program.specs.Serve.{AreNotesOf, EndsTurns, FailsInTurn, FailsToListen, IsRightRun, IsServed, IsUnused, LeavesSink, Outer, RunsNew, Scene, ServeEnds, ServesTo, ServesTurns, Service, WritesServed, outer, scene, served_line}
 pub use Rattle.ws_program.specs.Status.{exit_code_of}
 pub use Rattle.ws_program.specs.Streams.{Streams, TellsFaults, streams}
-pub use Rattle.ws_program.specs.Words.{IsEcho, IsNoCommand, IsNoServer, IsReplay, IsServe, RefusesWords, is_run, is_server}
+pub use Rattle.ws_program.specs.Words.{IsEcho, IsMade, IsNoCommand, IsNoReader, IsNoServer, IsReplay, IsServe, RefusesWords, is_reader, is_server}
 pub use Rattle.ws_program.specs.declared.answers.Answered.{Answered}
+pub use Rattle.ws_program.specs.declared.made.Sums.{Sums}
 pub use Rattle.ws_program.specs.declared.status.Status.{Status}
 pub use Rattle.ws_program.specs.declared.status.Status.TheVariants.{Done, NetFault, OutOfMemory, ReadFault, Refused, Usage, WriteFault}

@@ -8,4 +8,5 @@ pub mod Replayed
 pub mod Replay
 pub mod NewServer
 pub mod Serve
+pub mod Made
 pub mod All

@@ -12,11 +12,12 @@ use Rattle.bus_handler.specs.Bus.{routes_of_bus}
 use Rattle.schedule_text.specs.declared.fault.Fault.{Fault}
 use Rattle.schedule_text.specs.Reading.{IsText, IsRefused}
 use Rattle.schedule_text.specs.Output.{WritesText}
-use Rattle.schedule_text.specs.Report.{report}
 use Rattle.hub_lines.specs.State.{HubState}
 use Rattle.hub_lines.specs.Calls.{Settled}
 use Rattle.run_kept.specs.Ends.{backlog_at}
-use Rattle.ws_program.specs.Replayed.{IsReport, links_of}
+use Rattle.run_meaning.specs.Replies.{AreReplies}
+use Rattle.ws_program.specs.BusServer.{bus_server}
+use Rattle.ws_program.specs.Replayed.{IsReport, IsRunOf, CountsItems}
 use Rattle.ws_program.specs.declared.status.Status.{Status}
 use Rattle.ws_program.specs.declared.status.Status.TheVariants.{Done, Usage, Refused, ReadFault, WriteFault, NetFault, OutOfMemory}
 use Rattle.ws_program.specs.Streams.{Streams, TellsFaults}
@@ -97,10 +98,11 @@ pub record CanRun (acts : List Act) : Type 0 where
   pub sound : is_sound acts ≡ true
   pub few : length acts ≤ 1048576
 
--- what there is after a run of these acts: what can be written of it is its report
+-- what there is after a run of these acts, and the hub counted the items of each connection that is not gone
 pub record HasRun (admits : List ℕ → Bool) (config : ConfigValue) (acts : List Act) (hub : HubState) (net : MemNetState) (recorder : RecorderState) : Type 0 where
   pub settled : Settled hub
-  pub reports : IsReport admits config routes_of_bus acts (report recorder.notes (links_of (backlog_at hub) (net_state net).taken recorder.notes))
+  pub is : IsRunOf admits config routes_of_bus acts recorder.notes net (backlog_at hub)
+  pub counts : (replies : ℕ → List ℕ) → AreReplies routes_of_bus recorder.notes (net_state net).given replies → CountsItems (bus_server admits replies) recorder.notes hub
 
 -- the source gave octets to its end, or more than a text has, without a fault
 abbrev pub GivesAll : List ℕ → (left left' : Option (List ℕ)) → (faults faults' : ℕ) → Type 0

@@ -1,5 +1,5 @@
 -- What comes of a schedule that was run over a net in memory, with the built-in handler.
-use Rattle.std.specs.Prelude.{◌≡◌, ◌≢◌, ◌<◌, ◌+◌, Some, ◌-◌, ◌^◌, ℕ, List, [], ◌∷◌, ◌++◌, Bool, true, false, nat_eq, length, map}
+use Rattle.std.specs.Prelude.{◌≡◌, ◌≢◌, ◌<◌, ◌+◌, Some, ◌-◌, ◌^◌, ℕ, List, [], ◌∷◌, ◌++◌, Bool, true, false, nat_eq, length, map, if◌then◌else◌}
 use Rattle.std.specs.List.{list_any, flat_map, AllByRecursion}
 use Rattle.ws_kinds.specs.ConfigValue.{ConfigValue}
 use Rattle.ws_kinds.specs.NoteValue.{NoteValue}
@@ -15,7 +15,9 @@ use Rattle.link_trait.specs.NetState.{NetState}
 use Rattle.mem_net.specs.MemNet.{MemNetState, FollowsSchedule, net_state}
 use Rattle.route_table.specs.Table.{RouteTable}
 use Rattle.run_meaning.specs.Counts.{gather, accepted_by, is_accepted, is_gone_by_in}
-use Rattle.run_meaning.specs.Lines.{is_gone_phase, phase}
+use Rattle.run_meaning.specs.Lines.{is_gone_phase, phase, plain}
+use Rattle.run_meaning.specs.Server.{Server}
+use Rattle.hub_lines.specs.State.{HubState, is_present, numbered_at}
 use Rattle.run_meaning.specs.Settled.{Settled, is_reading}
 use Rattle.run_meaning.specs.Right.{Right}
 use Rattle.run_meaning.specs.Replies.{AreReplies, HasReplies}
@@ -80,13 +82,10 @@ AreLinks links = AllByRecursion IsLink links
 abbrev pub all_link_lines : List Link → List ℕ
 all_link_lines links = flat_map (λ link. link_line link.conn link.held link.octets) links
 
--- these octets are the report of a run of these acts, over a net in memory of which all acts were done, and then nothing more came
-pub record IsReport (admits : List ℕ → Bool) (config : ConfigValue) (table : RouteTable) (acts : List Act) (octets : List ℕ) : Type 0 where
-  pub notes : List NoteValue
-  pub net : MemNetState
-  pub held : ℕ → List ℕ
-  pub text : octets ≡ report notes (links_of held (net_state net).taken notes)
-  -- its numbers are in the ranges of their lines, so that the text tells the notes and the links
+-- The notes, the net in memory and what is held for each connection are those of a run of these acts: all acts were done, and then
+-- nothing more came.
+pub record IsRunOf (admits : List ℕ → Bool) (config : ConfigValue) (table : RouteTable) (acts : List Act) (notes : List NoteValue) (net : MemNetState) (held : ℕ → List ℕ) : Type 0 where
+  -- its numbers are in the ranges of their lines, so that a report's text tells the notes and the links
   pub notes_in_range : AreNotes notes
   pub links_in_range : AreLinks (links_of held (net_state net).taken notes)
   pub acts_are : net.acts ≡ acts
@@ -98,3 +97,23 @@ pub record IsReport (admits : List ℕ → Bool) (config : ConfigValue) (table :
   -- there are texts of replies that agree with the judging, and for all of them the run is as it should be
   pub texts : HasReplies table notes (net_state net).given
   pub run : (replies : ℕ → List ℕ) → AreReplies table notes (net_state net).given replies → IsReplayed admits config table acts notes (net_state net) held replies
+
+-- these octets are the report of a run of these acts, over a net in memory
+pub record IsReport (admits : List ℕ → Bool) (config : ConfigValue) (table : RouteTable) (acts : List Act) (octets : List ℕ) : Type 0 where
+  pub notes : List NoteValue
+  pub net : MemNetState
+  pub held : ℕ → List ℕ
+  pub text : octets ≡ report notes (links_of held (net_state net).taken notes)
+  pub tells : IsRunOf admits config table acts notes net held
+
+-- how many items were put for a connection that is not gone
+abbrev pub count_at : HubState → ℕ → ℕ
+count_at hub conn = if is_present hub conn then numbered_at hub conn else 0
+
+-- how many items a connection that is not gone is sent where each is sent singly and at once, by the notes
+abbrev pub items_there : {State : Type 0} → Server State → List NoteValue → ℕ → ℕ
+items_there server notes conn = if is_gone_phase (phase server notes conn) then 0 else length (plain server notes conn)
+
+-- the hub counted the items of each connection that was accepted
+abbrev pub CountsItems : {State : Type 0} → Server State → List NoteValue → HubState → Type 0
+CountsItems server notes hub = (conn : ℕ) → is_accepted conn notes ≡ true → count_at hub conn ≡ items_there server notes conn

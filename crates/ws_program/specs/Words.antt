@@ -3,6 +3,7 @@ use Rattle.std.specs.Prelude.{◌≡◌, ⊤, ℕ, Bool, true, false, List, Opti
 use Rattle.std.specs.Prelude.{String}
 use Rattle.std.specs.List.{list_all}
 use Rattle.ws_kinds.specs.ConfigValue.{ConfigValue}
+use Rattle.command_words.specs.Meaning as meaning
 use Rattle.command_words.specs.Meaning.{may_stand, meant}
 use Rattle.command_words.specs.declared.command.Command.{Command}
 use Rattle.command_words.specs.declared.command.Command.TheVariants.{Echo, Replay, Made, Serve}
@@ -20,19 +21,26 @@ IsReplay config words = meant (map string_bytes words) ≡ Some (Replay config)
 
 -- `serve`, with these numbers of its server, this port and this greatest number of turns
 abbrev pub IsServe : {A : Type 0} → Service → List (String A) → Type 0
-IsServe asked words = meant (map string_bytes words) ≡ Some (Serve asked.config asked.port asked.turns)
+IsServe asked words = meaning.IsServe asked.config asked.port asked.turns words
 
--- the program runs it
-abbrev pub is_run : Option Command → Bool
-is_run None = false
-is_run (Some (Echo max_message)) = true
-is_run (Some (Replay config)) = true
-is_run (Some (Serve config port turns)) = true
-is_run (Some (Made seed)) = false
+-- `made`, with this seed
+abbrev pub IsMade : {A : Type 0} → ℕ → List (String A) → Type 0
+IsMade seed words = meant (map string_bytes words) ≡ Some (Made seed)
 
--- the words mean no command that the program runs
+-- the words mean no command
 abbrev pub IsNoCommand : {A : Type 0} → List (String A) → Type 0
-IsNoCommand words = is_run (meant (map string_bytes words)) ≡ false
+IsNoCommand words = meant (map string_bytes words) ≡ None
+
+-- the words ask for a command that reads the source
+abbrev pub is_reader : Option Command → Bool
+is_reader None = false
+is_reader (Some (Echo max_message)) = true
+is_reader (Some (Replay config)) = true
+is_reader (Some (Serve config port turns)) = false
+is_reader (Some (Made seed)) = false
+
+abbrev pub IsNoReader : {A : Type 0} → List (String A) → Type 0
+IsNoReader words = is_reader (meant (map string_bytes words)) ≡ false
 
 -- the words ask for a server over the net
 abbrev pub is_server : Option Command → Bool

@@ -4,6 +4,7 @@
 mod answers;
 mod commands;
 mod echo;
+mod made;
 mod reads;
 mod replay;
 mod report;

@@ -120,14 +120,14 @@ fn replay_schedule<K: Sink>(
 
 /// What there is after a run.
 #[derive(Drop)]
-struct Replayed {
-    hub: Hub,
-    net: MemNet,
-    watch: Recorder,
+pub(crate) struct Replayed {
+    pub(crate) hub: Hub,
+    pub(crate) net: MemNet,
+    pub(crate) watch: Recorder,
 }
 
 /// Runs a schedule to its end. An error says that there was too little memory, also for a note or for what a link took.
-fn run_schedule(
+pub(crate) fn run_schedule(
     alloc: Global,
     config: Config,
     guard: &TopicGuard,

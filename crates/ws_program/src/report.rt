@@ -92,7 +92,7 @@ fn in_range(conn: u64, held: u64, octets: &[u8])
 {}
 
 /// The connection that the note says was accepted.
-fn accepted_by(note: &Note<'_>) -> Option<Conn>
+pub(crate) fn accepted_by(note: &Note<'_>) -> Option<Conn>
     ensures some { IfSome result (λ conn. noted.accepted_by (note_value note.now) ≡ conn.0 ∷ []) }
     ensures none { IfNone result (noted.accepted_by (note_value note.now) ≡ []) }
 {

@@ -225,7 +225,7 @@ const SERVES: &[(&str, &str)] = &[
 ];
 
 /// The place of the first row with another end.
-fn first_serve(rt: &HostRuntime, rows: &[(&str, &str)]) -> Result<Option<usize>, Fail> {
+fn first_line(rt: &HostRuntime, rows: &[(&str, &str)]) -> Result<Option<usize>, Fail> {
     for (place, (line, written)) in rows.iter().enumerate() {
         let run = run_line(rt, line, HELLO)?;
         if run.status != Status::Done || run.sink.octets() != written.as_bytes() {
@@ -234,6 +234,22 @@ fn first_serve(rt: &HostRuntime, rows: &[(&str, &str)]) -> Result<Option<usize>,
     }
     Ok(None)
 }
+
+/// Words, and what is written. A second run writes the same.
+const MADES: &[(&str, &str)] = &[
+    (
+        "made 7",
+        "made 7: turns 502 connections 64 messages 8000 items 504064 octets 9080256 dropped 0 sum 639688460\n",
+    ),
+    (
+        "made 7",
+        "made 7: turns 502 connections 64 messages 8000 items 504064 octets 9080256 dropped 0 sum 639688460\n",
+    ),
+    (
+        "made 18446744073709551615",
+        "made 18446744073709551615: turns 502 connections 64 messages 8000 items 504064 octets 9080256 dropped 0 sum 639654629\n",
+    ),
+];
 
 /// Words that are no command of the program.
 const NO_COMMANDS: &[&str] = &[
@@ -288,9 +304,13 @@ const NO_COMMANDS: &[&str] = &[
     "serve --port 0",
     "serve --port 65536",
     "serve --port 9001 --turns 0",
-    // a command that the program does not run yet
+    // no seed, two of them, one that is out of range or no number, and an option
     "made",
-    "made 7",
+    "made 7 8",
+    "made 18446744073709551616",
+    "made 07",
+    "made seven",
+    "made --seed 7",
 ];
 
 /// Whether the words of a line are Usage, and nothing is read or written.
@@ -318,7 +338,8 @@ fn first_run(rt: &HostRuntime, lines: &[&str]) -> Result<Option<usize>, Fail> {
 fn words_are_a_command_with_its_options(rt: HostRuntime) -> Result<(), Fail> {
     assert_eq!(rt; first_echo(&rt, ECHOES)?, None);
     assert_eq!(rt; first_replay(&rt, REPLAYS)?, None);
-    assert_eq!(rt; first_serve(&rt, SERVES)?, None);
+    assert_eq!(rt; first_line(&rt, SERVES)?, None);
+    assert_eq!(rt; first_line(&rt, MADES)?, None);
     assert_eq!(rt; first_run(&rt, NO_COMMANDS)?, None);
     Ok(())
 }

@@ -1,4 +1,4 @@
-use Rattle.made_schedule.proofs.All.{[], ◌∷◌, ◌∙◌, ap, Turn, is_sound, openings, rounds, made_open, put_three}
+use Rattle.made_schedule.proofs.All.{[], ◌∷◌, ◌∙◌, ap, Turn, length, is_sound, openings, rounds, made_length, made_open, put_three}
 use Rattle.made_schedule.proofs.schedule.made.Goals as goal
 
 pub returns-clause-acts : goal.returns-clause-acts
@@ -7,3 +7,6 @@ returns-clause-acts c = put_three c.new-schedule.result c.push_openings.new.sche
 
 pub returns-clause-sound : goal.returns-clause-sound
 returns-clause-sound c = ap is_sound (returns-clause-acts c) ∙ (made_open c.args.seed).sound
+
+pub returns-clause-count : goal.returns-clause-count
+returns-clause-count c = ap length (returns-clause-acts c) ∙ made_length c.args.seed

@@ -1,4 +1,4 @@
-use Rattle.ws_program.proofs.All.{◌≡◌, ◌+◌, ◌∙◌, List, ap, subst, arith, count_by, Act, net_state, told_by, RouteTable, server, IsRight, IsSettled, IsLivedThroughout, lived_first, is_turn_act, bus_beginning, no_views, never_spent, never_failed, few_passed, has_run, kept_first, views_at_first, there_at_first, between_first}
+use Rattle.ws_program.proofs.All.{◌≡◌, ◌+◌, ◌∙◌, List, ap, subst, arith, count_by, Act, net_state, told_by, RouteTable, server, IsRight, IsSettled, IsLivedThroughout, IsKeptLast, lived_first, is_turn_act, bus_beginning, no_views, never_spent, never_failed, few_passed, has_run, kept_first, views_at_first, there_at_first, between_first}
 use Rattle.topic_guard.specs.Admits.{admits}
 use Rattle.ws_program.proofs.replay.run_schedule.Goals as goal
 
@@ -33,4 +33,6 @@ returns g c =
     (subst (λ (t : RouteTable). IsSettled (bus_beginning rule f t) (server hub (net_state net) (told_by watch))) c.in-Ok.ensures.routes (c.run-ran.ensures.settled (omega arith) (tt {0}) f no_views few are kept there (between_first c.new-watch.result c.new-watch.ensures)))
     (subst (λ (t : RouteTable). IsLivedThroughout (bus_beginning rule f t) (server hub (net_state net) (told_by watch))) c.in-Ok.ensures.routes
     (c.run-ran.ensures.throughout (tt {0}) f no_views few are kept (lived_first (bus_beginning rule f c.in-Ok.routes) (server c.in_ok-hub.hub (net_state start) (told_by c.new-watch.result)) (ap told_by c.new-watch.ensures))))
+    (let (later, viewed, last) = c.run-ran.ensures.kept (tt {0}) f no_views few are kept in
+    subst (λ (t : RouteTable). IsKeptLast (bus_beginning rule f t) (server hub (net_state net) (told_by watch))) c.in-Ok.ensures.routes (later, last))
     c.is_whole.ensures.notes c.links_in_range.ensures

@@ -1,0 +1,11 @@
+pub mod Sending
+pub mod Passing
+pub mod Counting
+pub mod Reading
+pub mod Heads
+pub mod Judging
+pub mod Staying
+pub mod Room
+pub mod Hearing
+pub mod Accepting
+pub mod Weights
