@@ -1,5 +1,5 @@
 -- The reply to the request of a made schedule.
-use Rattle.std.proofs.Common.{◌≡◌, ℕ, List, ◌++◌, [], length, refl, ap, ◌∙◌, codes}
+use Rattle.std.proofs.Common.{◌≡◌, ℕ, List, [], length, refl, ap, codes}
 use Rattle.base64.specs.Rfc4648.{encode_symbols}
 use Rattle.sha1.specs.Sha1.{first_words, schedule, rounds, compress, hash_after, digest_bytes, sha1}
 use Rattle.bus_handler.specs.Bus.{routes_of_bus}

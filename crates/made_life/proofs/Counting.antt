@@ -1,14 +1,13 @@
 -- How many messages there are: each state gives one of the 64 connections a message.
-use Rattle.std.proofs.Common.{◌≡◌, ◌≤◌, ◌<◌, ℕ, zero, suc, ◌+◌, ◌/◌, ◌%◌, ◌^◌, Bool, true, false, cond, nat_eq, nat_lt, List, [], ◌∷◌, ◌++◌, length, map, refl, sym, ap, ◌∙◌, arith, append-nil, inl, inr, ◌⊎◌}
+use Rattle.std.proofs.Common.{◌≡◌, ◌≤◌, ◌<◌, ℕ, zero, suc, ◌+◌, ◌^◌, Bool, true, false, cond, nat_eq, nat_lt, List, [], ◌∷◌, ◌++◌, length, map, refl, ◌∙◌, arith}
 use Rattle.std.specs.List.{filter, list_all}
 use Rattle.std.proofs.lemmas.Bool.Decides.{nat_tests}
 use Rattle.std.proofs.lemmas.List.{length-append}
 use Rattle.std.proofs.lemmas.List.Folds.{list_all-append}
 use Rattle.ws_kinds.proofs.Facts.{and_left, and_right, by_cases}
-use Rattle.made_schedule.specs.Generator.{next_state, state_after}
+use Rattle.made_schedule.specs.Generator.{state_after}
 use Rattle.made_schedule.specs.Message.{sender_of}
 use Rattle.run_meaning.specs.Counts.{total}
-use Rattle.run_meaning.proofs.Parts.{total-append}
 use Rattle.made_life.specs.Sending.{is_sender, numbers, states, states_of}
 
 states_length : (count state : ℕ) → length (states count state) ≡ count

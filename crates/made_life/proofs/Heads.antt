@@ -1,5 +1,5 @@
 -- The request of a made schedule is admitted, on the room.
-use Rattle.std.proofs.Common.{◌≡◌, ◌≢◌, ◌≤◌, ◌<◌, ℕ, ◌+◌, Bool, true, false, List, [], ◌∷◌, ◌++◌, length, take, Option, Some, None, refl, sym, ap, ◌∙◌, arith, inl, inr, codes, IsTrue, nat_lt, All, map, ◌&&◌, if◌then◌else◌}
+use Rattle.std.proofs.Common.{◌≡◌, ◌<◌, ℕ, Bool, true, List, [], ◌∷◌, length, Some, None, refl, ap, ◌∙◌, arith, codes, IsTrue, nat_lt, All, map, ◌&&◌, if◌then◌else◌}
 use Rattle.std.specs.List.{list_all}
 use Rattle.std.proofs.lemmas.List.Elements.{All-cons, All-nil}
 use Rattle.std.specs.Str.{is_utf8, IsAscii}
@@ -7,7 +7,7 @@ use Rattle.std.proofs.lemmas.Bool.Decides.{nat_tests}
 use Rattle.ws_kinds.proofs.Facts.{and_left, and_right}
 use Rattle.std.proofs.lemmas.Str.{IsUtf8-from_ascii, is_utf8-from_IsUtf8}
 use Rattle.std.proofs.lemmas.Str.Ascii.{IsAscii-nil, IsAscii-cons}
-use Rattle.httparse.specs.Grammar.{RequestHead, Field, IsField, IsRequestHead, IsToken, AllPass, LineEnd, is_token_byte, is_uri_byte, is_value_byte, print_request, trim_ows}
+use Rattle.httparse.specs.Grammar.{RequestHead, Field, IsField, IsRequestHead, IsToken, AllPass, is_token_byte, is_uri_byte, is_value_byte, print_request, trim_ows}
 use Rattle.httparse.specs.Grammar.LineEnd.{crlf}
 use Rattle.matchit.specs.Route.{scan}
 use Rattle.matchit.specs.Seek.{seek, param_step}
@@ -15,7 +15,7 @@ use Rattle.route_table.specs.Table.{found}
 use Rattle.bus_handler.specs.Bus.{routes_of_bus}
 use Rattle.made_schedule.specs.Made.{room_head}
 use Rattle.upgrade_head.specs.Head.{head_end}
-use Rattle.upgrade_head.specs.Field.{FieldList, fields_of}
+use Rattle.upgrade_head.specs.Field.{fields_of}
 use Rattle.upgrade_head.specs.Key.{key_of}
 use Rattle.upgrade_head.specs.Judged.{asks_to_upgrade, has_version, is_get, path_of, route_of}
 

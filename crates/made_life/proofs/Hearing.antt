@@ -1,6 +1,6 @@
 -- How many messages are noted, and who is accepted.
-use Rattle.std.proofs.Common.{◌≡◌, ◌≤◌, ◌<◌, ℕ, zero, suc, ◌+◌, Bool, true, false, cond, ◌&&◌, nat_eq, nat_le, List, [], ◌∷◌, ◌++◌, length, map, refl, sym, ap, ◌∙◌, subst, arith, append-nil}
-use Rattle.std.specs.List.{flat_map, list_all, list_any}
+use Rattle.std.proofs.Common.{◌≡◌, ◌≤◌, ℕ, zero, suc, ◌+◌, Bool, true, false, cond, ◌&&◌, nat_eq, nat_le, List, [], ◌∷◌, ◌++◌, length, map, refl, sym, ap, ◌∙◌, arith, append-nil}
+use Rattle.std.specs.List.{flat_map, list_all}
 use Rattle.std.proofs.lemmas.Bool.Decides.{nat_tests}
 use Rattle.std.proofs.lemmas.Grind.{flat_map-append}
 use Rattle.std.proofs.lemmas.List.{length-append}
@@ -23,7 +23,7 @@ use Rattle.run_meaning.specs.Network as mark
 use Rattle.hub_notes.proofs.NetLemmas.{number_then}
 use Rattle.made_life.specs.Sending.{numbers, states_of}
 use Rattle.made_life.specs.Life.{is_message, is_message_heard, made_life}
-use Rattle.made_life.proofs.Counting.{ones, ones_one}
+use Rattle.made_life.proofs.Counting.{ones_one}
 
 -- ---- messages
 
@@ -98,18 +98,18 @@ life_messages conn seed = each (states_of conn seed)
 -- ---- who is accepted
 
 -- the connection of a note that one came
-abbrev come_by : NoteValue → List ℕ
+abbrev pub come_by : NoteValue → List ℕ
 come_by (note.accepted conn) = conn ∷ []
 come_by (note.busy conn) = conn ∷ []
 come_by (note.no_room conn) = conn ∷ []
 come_by _ = []
 
-abbrev arrival_of : Mark → List ℕ
+abbrev pub arrival_of : Mark → List ℕ
 arrival_of (mark.arrival conn) = conn ∷ []
 arrival_of mark.tick = []
 arrival_of mark.turn = []
 
-come_marked : (ns : List NoteValue) → gather come_by ns ≡ flat_map arrival_of (gather marks_by ns)
+pub come_marked : (ns : List NoteValue) → gather come_by ns ≡ flat_map arrival_of (gather marks_by ns)
 come_marked [] = refl
 come_marked (n ∷ ns) = one n ∙ ap (λ (l : List ℕ). flat_map arrival_of (marks_by n) ++ l) (come_marked ns) ∙ sym (flat_map-append arrival_of (marks_by n) (gather marks_by ns))
   where
@@ -121,7 +121,7 @@ come_marked (n ∷ ns) = one n ∙ ap (λ (l : List ℕ). flat_map arrival_of (m
     one (note.no_room conn) = refl
     one _ = refl
 
-acts_marked : (acts : List Act) → flat_map arrival_of (flat_map marks_of (passes acts)) ≡ arrivals acts
+pub acts_marked : (acts : List Act) → flat_map arrival_of (flat_map marks_of (passes acts)) ≡ arrivals acts
 acts_marked [] = refl
 acts_marked (act.Arrive conn credit ∷ acts) = ap (λ (l : List ℕ). conn.0 ∷ l) (acts_marked acts)
 acts_marked (act.Octets conn octets ∷ acts) = acts_marked acts
@@ -146,7 +146,7 @@ all_come (note.busy conn ∷ ns) same = absurd (omega (arith, same, fewer ns))
 all_come (note.no_room conn ∷ ns) same = absurd (omega (arith, same, fewer ns))
 all_come (_ ∷ ns) same = all_come ns same
 
-numbers_length : (n : ℕ) → length (numbers n) ≡ n
+pub numbers_length : (n : ℕ) → length (numbers n) ≡ n
 unfolding numbers
 numbers_length zero = refl
 numbers_length (suc n) = omega (arith, length-append (numbers n) (suc n ∷ []), numbers_length n)
@@ -162,12 +162,12 @@ all_accepted acts last ns passed are follows is count =
 
 -- ---- openings
 
-abbrev is_opening : Heard → Bool
+abbrev pub is_opening : Heard → Bool
 is_opening (opened route param) = true
 is_opening _ = false
 
 -- how often a connection was opened, by its notes and by what was heard
-opened_heard : (c : ℕ) (ns : List NoteValue) → number_of (is_opened c) ns ≡ number_of is_opening (heard c ns)
+pub opened_heard : (c : ℕ) (ns : List NoteValue) → number_of (is_opened c) ns ≡ number_of is_opening (heard c ns)
 opened_heard c [] = refl
 opened_heard c (n ∷ ns) = count (is_opened c n) ∙ rw (opened_heard c ns, ← one n) (sym (number_then is_opening (heard_by c n) (heard c ns)))
   where

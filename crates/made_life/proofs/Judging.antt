@@ -1,17 +1,13 @@
 -- What the octets of a connection of a made schedule say: all of them, and each front of them.
-use Rattle.std.proofs.Common.{◌≡◌, ◌≢◌, ◌≤◌, ◌<◌, ℕ, zero, suc, ◌+◌, ◌-◌, Bool, true, false, cond, List, [], ◌∷◌, ◌++◌, length, take, drop, map, Option, Some, None, refl, sym, ap, ◌∙◌, subst, arith, inl, inr, ◌⊎◌, codes, append-nil, append_assoc, nat_lt, ◌&&◌, MatchOption, if◌then◌else◌}
+use Rattle.std.proofs.Common.{◌≡◌, ◌≢◌, ◌≤◌, ℕ, zero, suc, ◌-◌, Bool, true, false, cond, List, [], ◌∷◌, ◌++◌, length, take, drop, map, Option, None, refl, sym, ap, ◌∙◌, subst, arith, inl, codes, append-nil, ◌&&◌, MatchOption}
 use Rattle.std.specs.List.{flat_map}
 use Rattle.std.proofs.Math.Seq.{drop-append_seam}
 use Rattle.std.proofs.lemmas.List.{map-append}
-use Rattle.std.proofs.lemmas.List.{length-append}
-use Rattle.route_table.specs.Table.{RouteTable}
-use Rattle.httparse.specs.Grammar.{RequestHead, Field, IsField, IsRequestHead, IsToken, AllPass, is_token_byte, is_uri_byte, is_value_byte, print_request, trim_ows}
+use Rattle.httparse.specs.Grammar.{print_request, trim_ows}
 use Rattle.bus_handler.specs.Bus.{routes_of_bus}
-use Rattle.wire_meaning.specs.Event.{Event}
 use Rattle.wire_meaning.specs.Reading.{reading}
 use Rattle.made_schedule.specs.Made.{room_head}
 use Rattle.upgrade_head.specs.Field.{fields_of}
-use Rattle.upgrade_head.specs.Head.{IsHead, head_end}
 use Rattle.upgrade_head.specs.Judged.{Verdict, Judged, JudgedHead, admit, refuse, more, unended, by_parts, by_key, by_path, asks_to_upgrade, has_version, is_get, is_offered, path_of, protocol_of, route_of}
 use Rattle.upgrade_head.specs.Key.{accept_text, key_of}
 use Rattle.ws_kinds.specs.declared.kind.Kind.TheVariants.{Text}
@@ -77,7 +73,7 @@ pub judged_then : (behind : List ℕ) → Judged routes_of_bus (room_head ++ beh
 judged_then behind = judged_stays routes_of_bus room_head behind admitted head_judged not_more
 
 -- all that the octets of a connection say
-life_of : (behind : List ℕ) (life : List Heard) → IsLife routes_of_bus 16384 (room_head ++ behind) life → life ≡ opened 1 (codes "m") ∷ map read (reading 16384 behind)
+pub life_of : (behind : List ℕ) (life : List Heard) → IsLife routes_of_bus 16384 (room_head ++ behind) life → life ≡ opened 1 (codes "m") ∷ map read (reading 16384 behind)
 life_of behind life is =
     let verdict = judged_unique routes_of_bus (room_head ++ behind) is.verdict admitted is.judged (judged_then behind) in
     is.says ∙ ap (life_by 16384 (room_head ++ behind)) verdict ∙ ap (λ (l : List ℕ). opened 1 (codes "m") ∷ map read (reading 16384 l)) (after_head behind)

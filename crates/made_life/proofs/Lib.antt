@@ -9,3 +9,14 @@ pub mod Room
 pub mod Hearing
 pub mod Accepting
 pub mod Weights
+pub mod Walking
+pub mod Rooms
+pub mod Spreading
+pub mod Coming
+pub mod Opening
+pub mod Resting
+pub mod Turning
+pub mod Beginning
+pub mod Running
+pub mod Unlimited
+pub mod Ending

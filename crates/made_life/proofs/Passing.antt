@@ -1,6 +1,6 @@
 -- What the acts of a made schedule pass, and which acts there are not.
-use Rattle.std.proofs.Common.{◌≡◌, ℕ, zero, suc, ◌*◌, Bool, true, false, List, [], ◌∷◌, ◌++◌, ◌||◌, refl, ◌∙◌, ap, append_assoc, append-nil, length}
-use Rattle.std.specs.List.{list_any, flat_map}
+use Rattle.std.proofs.Common.{◌≡◌, ℕ, zero, suc, ◌*◌, Bool, true, false, List, [], ◌∷◌, ◌++◌, refl, ◌∙◌, append-nil}
+use Rattle.std.specs.List.{list_any}
 use Rattle.std.proofs.lemmas.Grind.{flat_map-append}
 use Rattle.std.proofs.lemmas.List.Folds.{list_any-append}
 use Rattle.link_trait.specs.declared.act.Act.{Act}
@@ -23,7 +23,7 @@ is_other act.Tick = true
 is_other act.Turn = false
 
 -- acts of these kinds alone, of which so many connections arrive
-record IsMadeOf (acts : List Act) (arrived : List ℕ) : Type 0 where
+pub record IsMadeOf (acts : List Act) (arrived : List ℕ) : Type 0 where
   pub alone : list_any is_other acts ≡ false
   pub arrived_are : arrivals acts ≡ arrived
 
@@ -33,7 +33,7 @@ then xs ys ms ns x y = record {
   arrived_are = flat_map-append arrives_by xs ys ∙ rw (x.arrived_are, y.arrived_are) refl;
 }
 
-made_openings : (count : ℕ) → IsMadeOf (openings count) (numbers count)
+pub made_openings : (count : ℕ) → IsMadeOf (openings count) (numbers count)
 unfolding openings numbers
 made_openings zero = record { alone = refl; arrived_are = refl }
 made_openings (suc count) = then (openings count) (opening (suc count)) (numbers count) (suc count ∷ []) (made_openings count) (record { alone = refl; arrived_are = refl })

@@ -1,16 +1,14 @@
 -- The messages of a connection are read as they were sent.
-use Rattle.std.proofs.Common.{◌≡◌, ◌≤◌, ◌<◌, ℕ, zero, suc, ◌+◌, ◌*◌, ◌/◌, ◌%◌, ◌^◌, Bool, true, false, cond, nat_lt, List, [], ◌∷◌, ◌++◌, length, map, None, refl, sym, ap, ◌∙◌, arith, append-nil, append_assoc}
+use Rattle.std.proofs.Common.{◌≡◌, ◌<◌, ℕ, zero, suc, ◌+◌, ◌*◌, ◌/◌, ◌%◌, ◌^◌, Bool, true, false, cond, nat_lt, List, [], ◌∷◌, ◌++◌, length, map, refl, ap, ◌∙◌, arith}
 use Rattle.std.specs.List.{flat_map}
 use Rattle.std.specs.Int.{byte_at, bytes_high_first}
-use Rattle.std.specs.Str.{IsAscii, IsUtf8}
-use Rattle.std.proofs.lemmas.Bool.Decides.{nat_tests}
-use Rattle.std.proofs.lemmas.Str.{IsUtf8-from_ascii}
+use Rattle.std.specs.Str.{IsAscii, is_utf8}
+use Rattle.std.proofs.lemmas.Str.{IsUtf8-from_ascii, is_utf8-from_IsUtf8}
 use Rattle.std.proofs.lemmas.Str.Ascii.{IsAscii-nil, IsAscii-cons}
 use Rattle.ws_kinds.specs.declared.kind.Kind.TheVariants.{Text}
 use Rattle.wire_meaning.specs.declared.frame.Opcode.TheVariants.{Begins}
 use Rattle.wire_meaning.specs.Answer.{Sent, sent_octets, KeepsRules}
 use Rattle.wire_meaning.specs.Event.{Event, message}
-use Rattle.wire_meaning.specs.Mask.{unmasked}
 use Rattle.wire_meaning.specs.Reading.{reading, reads, reads_within}
 use Rattle.wire_meaning.proofs.SentLemmas.{reading-sent}
 use Rattle.made_schedule.specs.Message.{body_of, hex, hex_digit, key_of, octets_of}
@@ -46,6 +44,9 @@ hex_ascii (suc k) n =
 
 pub body_length : (state : ℕ) → length (body_of state) ≡ 16
 body_length state = hex_length (bytes_high_first 8 state) ∙ ap (λ k. 2 * k) (high_first_length 8 state)
+
+pub body_text : (state : ℕ) → is_utf8 (body_of state) ≡ true
+body_text state = is_utf8-from_IsUtf8 (body_of state) (IsUtf8-from_ascii (body_of state) (hex_ascii 8 state))
 
 -- the frame that a state gives
 abbrev made_frame : ℕ → Sent

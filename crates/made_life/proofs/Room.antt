@@ -1,5 +1,5 @@
 -- Nobody is closed by a handler that closes on one route alone, where all connections are opened on others.
-use Rattle.std.proofs.Common.{◌≡◌, ℕ, ◌+◌, Bool, true, false, cond, not, ◌&&◌, nat_eq, List, [], ◌∷◌, Option, None, refl, sym, ap, ◌∙◌, subst}
+use Rattle.std.proofs.Common.{◌≡◌, ℕ, ◌+◌, Bool, true, false, cond, not, nat_eq, List, [], ◌∷◌, None, refl, sym, subst}
 use Rattle.std.specs.List.{list_all}
 use Rattle.ws_kinds.proofs.Facts.{and_left, and_right, clash}
 use Rattle.ws_kinds.specs.EventValue as event

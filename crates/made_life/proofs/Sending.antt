@@ -1,10 +1,9 @@
 -- What each connection of a made schedule sends: the request, and then its messages.
-use Rattle.std.proofs.Common.{◌≡◌, ◌≢◌, ◌≤◌, ◌<◌, ℕ, zero, suc, ◌+◌, ◌*◌, Bool, true, false, cond, nat_eq, List, [], ◌∷◌, ◌++◌, refl, sym, ap, ◌∙◌, arith, append-nil, append_assoc, inl, inr, ◌⊎◌}
+use Rattle.std.proofs.Common.{◌≡◌, ◌≤◌, ◌<◌, ℕ, zero, suc, ◌+◌, ◌*◌, Bool, true, false, cond, nat_eq, List, [], ◌∷◌, ◌++◌, refl, sym, ap, ◌∙◌, arith, append-nil, append_assoc}
 use Rattle.std.specs.List.{filter, flat_map}
 use Rattle.std.proofs.lemmas.Bool.Decides.{nat_tests}
 use Rattle.std.proofs.lemmas.Grind.{flat_map-append}
 use Rattle.std.proofs.lemmas.List.Elements.{filter-append}
-use Rattle.std.proofs.Math.Nat.{eq-or-lt_of_le}
 use Rattle.ws_kinds.proofs.Facts.{by_cases}
 use Rattle.link_trait.specs.declared.act.Act.{Act}
 use Rattle.link_trait.specs.declared.act.Act.TheVariants as act
@@ -29,7 +28,7 @@ openings_none c (suc n) low =
     let other : nat_eq (suc n) c ≡ false = grind (arith, nat_tests) in
     sent_then c (openings n) (opening (suc n)) ∙ rw (openings_none c n (omega arith), opening_sent c (suc n), other) refl
 
-openings_head : (c n : ℕ) → 1 ≤ c → c ≤ n → sent c (openings n) ≡ room_head
+pub openings_head : (c n : ℕ) → 1 ≤ c → c ≤ n → sent c (openings n) ≡ room_head
 unfolding openings
 openings_head c zero one high = absurd (omega arith)
 openings_head c (suc n) one high =

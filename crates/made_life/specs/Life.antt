@@ -1,7 +1,8 @@
 -- What is heard of the connections of a made schedule.
-use Rattle.std.specs.Prelude.{ℕ, Bool, true, false, List, [], ◌∷◌, ◌&&◌, nat_eq, length, map, codes}
-use Rattle.std.specs.Str.{bytes_eq}
+use Rattle.std.specs.Prelude.{ℕ, Bool, true, false, List, ◌∷◌, map, codes}
 use Rattle.ws_kinds.specs.declared.kind.Kind.TheVariants.{Text}
+use Rattle.ws_kinds.specs.declared.note.Why.{Why}
+use Rattle.ws_kinds.specs.declared.note.Why.TheVariants.{Memory}
 use Rattle.ws_kinds.specs.NoteValue as note
 use Rattle.ws_kinds.specs.NoteValue.{NoteValue}
 use Rattle.wire_meaning.specs.Event as wire
@@ -33,7 +34,22 @@ abbrev pub is_message : NoteValue → Bool
 is_message (note.message conn kind body) = true
 is_message _ = false
 
+-- the note says that an item was dropped
+abbrev pub is_drop : NoteValue → Bool
+is_drop (note.dropped conn index held) = true
+is_drop _ = false
+
 -- a message was heard
 abbrev pub is_message_heard : Heard → Bool
 is_message_heard (read (wire.message kind body)) = true
 is_message_heard _ = false
+
+abbrev pub is_memory : Why → Bool
+is_memory Memory = true
+is_memory _ = false
+
+-- the note says that memory was short for a connection, or for a subscription
+abbrev pub is_want : NoteValue → Bool
+is_want (note.no_room conn) = true
+is_want (note.unserved conn order why) = is_memory why
+is_want _ = false

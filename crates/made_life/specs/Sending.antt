@@ -1,5 +1,5 @@
 -- Who sends what in the schedule that a seed makes.
-use Rattle.std.specs.Prelude.{ℕ, zero, suc, ◌+◌, Bool, List, [], ◌∷◌, ◌++◌, nat_eq}
+use Rattle.std.specs.Prelude.{ℕ, zero, suc, Bool, List, [], ◌∷◌, ◌++◌, nat_eq}
 use Rattle.std.specs.List.{filter}
 use Rattle.made_schedule.specs.Generator.{state_after}
 use Rattle.made_schedule.specs.Message.{sender_of}

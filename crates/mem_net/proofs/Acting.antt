@@ -6,7 +6,7 @@ use Rattle.mem_net.proofs.Schedules.{sound_at, sound_rises, arrived}
 use Rattle.mem_net.proofs.Places.{link_there, link_nowhere}
 use Rattle.mem_net.specs.declared.mem_link.Finish.TheVariants as finish
 use Rattle.mem_net.proofs.Fitting.{IsApart, IsStill, fits_arrive, fits_change, fits_come, fits_finish}
-use Rattle.mem_net.proofs.Moving.{Moves, IsNext, drop_next, fits_all, fits_unmoved, next_rest, answers_quiet}
+use Rattle.mem_net.proofs.Moving.{Moves, IsNext, drop_next, fits_all, fits_unmoved, next_rest, next_done, answers_quiet}
 use Rattle.mem_net.proofs.Telling.{Alike, Quiet, accepts, skips, readies, frees, ticks, turns, told_moved, told_unmoved, followed, passing_passed}
 
 or_mono : (b x y : Bool) → (x ≡ true → y ≡ true) → (b || x) ≡ true → (b || y) ≡ true
@@ -153,7 +153,7 @@ arrive_leaves conn i credit old new link n m e links told answers faults port re
     let told_new : AllTold new = told_moved conn i old new link m told (λ live ready. let none : is_ready link ≡ false = ap is_ready e ∙ ap (λ (l : LinkState). is_ready (arrives credit l)) quiet in cc) in
     let passed = passing_passed one (event.Accept (record { 0 = conn })) old new n refl answers in
     record {
-      follows = followed one old new n links fits passed.0 told_new;
+      follows = followed one old new n links fits passed.0 told_new (λ r. cc);
       told = told_new;
       does = record {
         event = accepts conn i credit old new link n m e quiet answers faults port rest;
@@ -172,7 +172,7 @@ tick_leaves old new n l told answers faults port rest =
     let told_new : AllTold new = told_unmoved old new n.acts l told in
     let passed = passing_passed act.Tick event.Tick old new n refl answers in
     record {
-      follows = followed act.Tick old new n (ap length l) (fits_unmoved act.Tick old new n l (λ d. record { sent = refl; finish = refl; arrival = refl; still = record { credit = λ before. refl; failure = refl } })) passed.0 told_new;
+      follows = followed act.Tick old new n (ap length l) (fits_unmoved act.Tick old new n l (λ d. record { sent = refl; finish = refl; arrival = refl; still = record { credit = λ before. refl; failure = refl } })) passed.0 told_new (λ r. cc);
       told = told_new;
       does = record { event = ticks old new n l answers faults port rest; goes_on = refl; tells = (act.Tick, n.at, refl); acts = n.acts; one_more = n.one_more; whole = n.whole; told = told_new };
     }
@@ -183,7 +183,7 @@ turn_leaves old new n l told answers faults port rest =
     let told_new : AllTold new = told_unmoved old new n.acts l told in
     let passed = passing_passed act.Turn event.Turn old new n refl answers in
     record {
-      follows = followed act.Turn old new n (ap length l) (fits_unmoved act.Turn old new n l (λ d. record { sent = refl; finish = refl; arrival = refl; still = record { credit = λ before. refl; failure = refl } })) passed.0 told_new;
+      follows = followed act.Turn old new n (ap length l) (fits_unmoved act.Turn old new n l (λ d. record { sent = refl; finish = refl; arrival = refl; still = record { credit = λ before. refl; failure = refl } })) passed.0 told_new (λ r. (take old.done old.acts, next_done act.Turn old new n));
       told = told_new;
       does = record { event = turns old new n l answers faults port rest; goes_on = refl; tells = (act.Turn, n.at, refl); acts = n.acts; one_more = n.one_more; whole = n.whole; told = told_new };
     }
@@ -218,7 +218,7 @@ comes_leaves one conn i old new link on n m apart p r fit alike live due writabl
     let told_new : AllTold new = told_moved conn i old new link m told (λ l ready. due_of (link_at old conn).due (link_at old conn).live link.due due (sym live ∙ l)) in
     let answers = answers_quiet one old new n p quiet.answers in
     record {
-      follows = followed one old new n links (fits_all one conn i old new link n m apart fit) answers told_new;
+      follows = followed one old new n links (fits_all one conn i old new link n m apart fit) answers told_new (λ r. cc);
       told = told_new;
       does = told_if (event.Readable (record { 0 = conn })) one conn old new on refl n told_new
           (λ is. readies one conn i old new link n m alike quiet p r live is (due_of (link_at old conn).due (link_at old conn).live link.due due is) writable rest)
@@ -254,7 +254,7 @@ changed what one conn i old new link is on n m apart p r sent ends e links told 
     let fit : has_arrived old.acts conn ≡ true → LinkFollows conn (before ++ one ∷ []) (drop new.done new.acts) old.whole link = λ a.
     rw e (fits_change what conn before (drop new.done new.acts) one old.whole (link_at old conn) is sound came sent ends (rw (← (next_rest one old new n)) (n.follows.fits conn a))) in
     record {
-      follows = followed one old new n links (fits_all one conn i old new link n m apart fit) (answers_quiet one old new n p quiet.answers) told_new;
+      follows = followed one old new n links (fits_all one conn i old new link n m apart fit) (answers_quiet one old new n p quiet.answers) told_new (λ r. cc);
       told = told_new;
       does = told_if (event.Writable (record { 0 = conn })) one conn old new on refl n told_new
           (λ is. frees one conn i old new link n m alike quiet p r live is due (due_of (link_at old conn).writable (link_at old conn).live link.writable writable is) rest)

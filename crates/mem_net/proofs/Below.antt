@@ -11,5 +11,5 @@ pub use Rattle.std.proofs.lemmas.List.Folds.{list_all-append, list_any-append, l
 pub use Rattle.std.proofs.lemmas.List.Sorted.{searched}
 pub use Rattle.std.proofs.lemmas.List.Sums.{fold_push, sum_by-set}
 pub use Rattle.std.proofs.lemmas.Option.{get_or_from_slice_get, slice_get-get_or, slice_get-map, slice_get_read, slice_get_within}
-pub use Rattle.mem_net.specs.All.{fold, list_all, list_any, sum_by, IsBinarySearchResult, nat_cmp, result_ok, BreaksRead, CountsFault, CountsNetReadFaults, Ends, NetGives, NetGivesWithin, Nexts, Reads, Same, SameBut, SameLinks, SameNet, SameTraffic, SameTrafficBut, Shuts, Writes, passed_after, Act, NetEvent, NetRead, NetWrote, arrivals, arrives_by, credit_by, credit_of, event_of, finish_by, finish_of, is_end, is_fault, is_write_failure, or_then, passes, passes_by, sent, sent_by, writes_fail, LinkReads, LinkState, LinkWrites, arrives, changes, comes, counted, failing_changed, faults_in_answer, finishes, gained, is_finish, is_ready, is_untold, new_link, room_for, shuts, tells, AllTold, FollowsSchedule, IsOfShut, IsPassedOver, IsWithin, LinkFollows, LinkTakes, MemNetState, PassesOver, Takes, TakesByActs, is_short, takes_less, was_short, link_at, link_of, net_state, new_links, passed_by, readies_left, start_net, Does, IsChanging, IsFinishing, IsSending, Keeps, Repeats, Rises, Skips, is_last, are_sound_after, can_send, has_arrived, has_ended, is_arrival, is_number, is_rising, is_sound, is_sound_after, Change, Finish}
+pub use Rattle.mem_net.specs.All.{EndsWithTurnAct, fold, list_all, list_any, sum_by, IsBinarySearchResult, nat_cmp, result_ok, BreaksRead, CountsFault, CountsNetReadFaults, Ends, NetGives, NetGivesWithin, Nexts, Reads, Same, SameBut, SameLinks, SameNet, SameTraffic, SameTrafficBut, Shuts, Writes, passed_after, Act, NetEvent, NetRead, NetWrote, arrivals, arrives_by, credit_by, credit_of, event_of, finish_by, finish_of, is_end, is_fault, is_write_failure, or_then, passes, passes_by, sent, sent_by, writes_fail, LinkReads, LinkState, LinkWrites, arrives, changes, comes, counted, failing_changed, faults_in_answer, finishes, gained, is_finish, is_ready, is_untold, new_link, room_for, shuts, tells, AllTold, FollowsSchedule, IsOfShut, IsPassedOver, IsWithin, LinkFollows, LinkTakes, MemNetState, PassesOver, Takes, TakesByActs, is_short, takes_less, was_short, link_at, link_of, net_state, new_links, passed_by, readies_left, start_net, Does, IsChanging, IsFinishing, IsSending, Keeps, Repeats, Rises, Skips, is_last, are_sound_after, can_send, has_arrived, has_ended, is_arrival, is_number, is_rising, is_sound, is_sound_after, Change, Finish}
 pub use Rattle.ws_kinds.proofs.Facts.{and_left, and_right, or_left, or_right, same_number}

@@ -143,6 +143,7 @@ starts acts few sound = record {
     passed = omega arith;
     stops = λ h. refl;
     told = λ h. cc;
+    turned = λ h less. cc;
   };
   numbers_are = refl;
   read = λ h. all_told (start_net acts) (none_live (λ c. new_link (sent c acts)) is_untold (arrivals acts) (λ c. refl));

@@ -1,5 +1,5 @@
 -- What a net in memory does beside the acts of its schedule.
-use Rattle.mem_net.proofs.Below.{◌≡◌, ℕ, ◌+◌, ◌-◌, ◌^◌, ◌<◌, ◌≤◌, List, [], ◌∷◌, ◌++◌, ◌&&◌, ◌||◌, not, length, take, drop, min, max, replicate, Bool, true, false, nat_eq, nat_lt, refl, sym, ◌∙◌, ap, arith, length-append, append_assoc, if◌then◌else◌, list_any, fold, cases_eq, nat_tests, replicate-append-replicate, length-replicate, has_arrived, LinkState, new_link, is_ready, is_untold, tells, Nexts, passed_after, arrivals, passes, MemNetState, passed_by, link_of, link_at, readies_left, net_state, LinkFollows, AllTold, FollowsSchedule, Repeats, Act, NetEvent, or_left, or_right}
+use Rattle.mem_net.proofs.Below.{◌≡◌, ℕ, ◌+◌, ◌-◌, ◌^◌, ◌<◌, ◌≤◌, List, [], ◌∷◌, ◌++◌, ◌&&◌, ◌||◌, not, length, take, drop, min, max, replicate, subst, EndsWithTurnAct, Bool, true, false, nat_eq, nat_lt, refl, sym, ◌∙◌, ap, arith, length-append, append_assoc, if◌then◌else◌, list_any, fold, cases_eq, nat_tests, replicate-append-replicate, length-replicate, has_arrived, LinkState, new_link, is_ready, is_untold, tells, Nexts, passed_after, arrivals, passes, MemNetState, passed_by, link_of, link_at, readies_left, net_state, LinkFollows, AllTold, FollowsSchedule, Repeats, Act, NetEvent, or_left, or_right}
 use Rattle.link_trait.specs.declared.net.NetEvent.TheVariants as event
 use Rattle.mem_net.proofs.Moving.{Moves, moved_here, moved_elsewhere, moved_same, moved_but, moved_sum, either}
 use Rattle.mem_net.proofs.Telling.{same_least, same_net, unmoved_traffic, unmoved_links, nothing_passes}
@@ -99,8 +99,8 @@ same_rest c i old new link t = rw (t.moves.acts, t.done) refl
 
 pub touched : (c i : ℕ) (old new : MemNetState) (link : LinkState) → Touches c i old new link
     → (has_arrived old.acts c ≡ true → LinkFollows c (take old.done old.acts) (drop old.done old.acts) old.whole (link_at old c) → LinkFollows c (take old.done old.acts) (drop old.done old.acts) new.whole link)
-    → (new.rested ≡ true → AllTold new) → FollowsSchedule new
-touched c i old new link t here told =
+    → (new.rested ≡ true → old.rested ≡ true) → (new.rested ≡ true → AllTold new) → FollowsSchedule new
+touched c i old new link t here rests told =
     let acts : length new.acts ≡ length old.acts = ap length t.moves.acts in
     let done = same_done c i old new link t in
     let rest = same_rest c i old new link t in
@@ -123,6 +123,7 @@ touched c i old new link t here told =
       passed = rw (same_passes, t.answers) t.follows.passed;
       stops = λ h. t.answers ∙ t.follows.stops (omega arith) ∙ ap length (sym same_passes);
       told = told;
+      turned = λ now less. subst EndsWithTurnAct (sym done) (t.follows.turned (rests now) (omega arith));
     }
 
 -- the answers that passed are the same
@@ -222,6 +223,6 @@ told_again conn i old new link t e untold faults port whole rest =
       follows = touched conn i old new link t
           (λ a f. rw e (fits_told conn before (drop old.done old.acts) new.whole (link_at old conn) is.1 (fits_weaker conn before (drop old.done old.acts) old.whole new.whole (link_at old conn) t.whole f)
           (live_arrived conn before (drop old.done old.acts) old.whole (link_at old conn) f is.0)))
-          (λ h. cc);
+          (λ h. cc) (λ h. cc);
       repeats = again conn i old new link t e untold faults port whole rest;
     }

@@ -1,5 +1,5 @@
 -- Lemmas on what the acts of a net in memory tell.
-use Rattle.mem_net.proofs.Below.{◌≡◌, ℕ, ◌+◌, ◌-◌, ◌^◌, ◌<◌, ◌≤◌, List, [], ◌∷◌, ◌++◌, length, take, drop, min, max, Bool, true, false, Some, None, nat_lt, refl, sym, ◌∙◌, ap, arith, length-append, if◌then◌else◌, list_all, sum_by, fold, cases_eq, nat_tests, append-nil, fold_push, flat_map-append, is_rising, has_arrived, is_sound_after, is_number, LinkState, new_link, is_ready, SameTraffic, SameLinks, SameNet, Nexts, arrives_by, arrivals, passes_by, passes, MemNetState, passed_by, link_at, readies_left, net_state, LinkFollows, AllTold, FollowsSchedule, Skips, Act, NetEvent, Option, arrives}
+use Rattle.mem_net.proofs.Below.{EndsWithTurnAct, ◌≡◌, ℕ, ◌+◌, ◌-◌, ◌^◌, ◌<◌, ◌≤◌, List, [], ◌∷◌, ◌++◌, length, take, drop, min, max, Bool, true, false, Some, None, nat_lt, refl, sym, ◌∙◌, ap, arith, length-append, if◌then◌else◌, list_all, sum_by, fold, cases_eq, nat_tests, append-nil, fold_push, flat_map-append, is_rising, has_arrived, is_sound_after, is_number, LinkState, new_link, is_ready, SameTraffic, SameLinks, SameNet, Nexts, arrives_by, arrivals, passes_by, passes, MemNetState, passed_by, link_at, readies_left, net_state, LinkFollows, AllTold, FollowsSchedule, Skips, Act, NetEvent, Option, arrives}
 use Rattle.link_trait.specs.declared.act.Act.TheVariants as act
 use Rattle.link_trait.specs.declared.net.NetEvent.TheVariants as event
 use Rattle.mem_net.proofs.Schedules.{sound_at, below}
@@ -292,8 +292,8 @@ told_unmoved old new a l told d live ready =
 -- the schedule is followed, once the next act was done
 pub followed : (one : Act) (old new : MemNetState) → IsNext one old new → length new.links ≡ length old.links
     → ((d : ℕ) → has_arrived new.acts d ≡ true → LinkFollows d (take new.done new.acts) (drop new.done new.acts) new.whole (link_at new d))
-    → new.answers ≡ length (passes (take new.done new.acts)) → AllTold new → FollowsSchedule new
-followed one old new n links fits answers told =
+    → new.answers ≡ length (passes (take new.done new.acts)) → AllTold new → (new.rested ≡ true → EndsWithTurnAct (take new.done new.acts)) → FollowsSchedule new
+followed one old new n links fits answers told turned =
     let within : old.done < length old.acts = next_within one old new n in
     let acts : length new.acts ≡ length old.acts = ap length n.acts in
     let one_more = n.one_more in
@@ -306,4 +306,5 @@ followed one old new n links fits answers told =
       passed = omega arith;
       stops = λ h. answers;
       told = λ h. told;
+      turned = λ rests less. turned rests;
     }

@@ -187,7 +187,7 @@ read_leaves answer conn i space old new link t r live came some small faults por
     let left = l.left in
     let room = touched_room conn i old new link t in
     record {
-      follows = touched conn i old new link t (λ a f. fits_weaker conn before after old.whole new.whole link t.whole (read_fits answer conn before after old.whole space (link_at old conn) link live r f)) (λ h. cc);
+      follows = touched conn i old new link t (λ a f. fits_weaker conn before after old.whole new.whole link t.whole (read_fits answer conn before after old.whole space (link_at old conn) link live r f)) (λ h. cc) (λ h. cc);
       reads = record {
         net = same_net old new m.acts;
         within = l.within;
@@ -335,7 +335,7 @@ took_leaves conn i octets n old new link t w few short live came whole faults po
     let told = same_links_told conn i old new link t (ap is_ready e) (ap (λ x. x.live) e) (ap (λ x. x.due) e) in
     let within : n ≤ length octets = rw w.1 (room_within (length octets) (link_at old conn).credit (length (link_at old conn).taken)) in
     record {
-      follows = touched conn i old new link t (λ a f. fits_weaker conn before after old.whole new.whole link t.whole (took_fits conn before after old.whole octets n (link_at old conn) link live w few f)) (λ r. told (t.follows.told (sym rest ∙ r)));
+      follows = touched conn i old new link t (λ a f. fits_weaker conn before after old.whole new.whole link t.whole (took_fits conn before after old.whole octets n (link_at old conn) link live w few f)) (λ r. sym rest ∙ r) (λ r. told (t.follows.told (sym rest ∙ r)));
       writes = record {
         net = same_net old new m.acts;
         within = within;
@@ -373,7 +373,7 @@ fail_leaves conn i octets old new link t e live came whole small faults port res
     let left : readies_left link ≡ readies_left (link_at old conn) = ap readies_left e in
     let told = same_links_told conn i old new link t (ap is_ready e) (ap (λ x. x.live) e) (ap (λ x. x.due) e) in
     record {
-      follows = touched conn i old new link t (λ a f. failed_fits conn before after old.whole new.whole octets (link_at old conn) link live e whole f) (λ r. told (t.follows.told (sym rest ∙ r)));
+      follows = touched conn i old new link t (λ a f. failed_fits conn before after old.whole new.whole octets (link_at old conn) link live e whole f) (λ r. sym rest ∙ r) (λ r. told (t.follows.told (sym rest ∙ r)));
       writes = record {
         net = same_net old new m.acts;
         within = tt;
@@ -431,7 +431,7 @@ shut_leaves conn i old new link t e live faults port rest =
     let left : readies_left link ≡ readies_left (link_at old conn) = ap readies_left e in
     let told : AllTold old → AllTold new = λ told. told_moved conn i old new link m told (λ l r. let gone = ap (λ x. x.live) e in cc) in
     record {
-      follows = touched conn i old new link t (λ a f. fits_weaker conn before after old.whole new.whole link t.whole (shut_fits conn before after old.whole (link_at old conn) link live e f)) (λ r. told (t.follows.told (sym rest ∙ r)));
+      follows = touched conn i old new link t (λ a f. fits_weaker conn before after old.whole new.whole link t.whole (shut_fits conn before after old.whole (link_at old conn) link live e f)) (λ r. sym rest ∙ r) (λ r. told (t.follows.told (sym rest ∙ r)));
       shuts = record {
         net = same_net old new m.acts;
         told = λ tells. record {

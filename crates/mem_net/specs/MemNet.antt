@@ -130,6 +130,10 @@ pub record LinkFollows (conn : ℕ) (done rest : List Act) (whole : Bool) (link 
 abbrev pub AllTold : MemNetState → Type 0
 AllTold net = (conn : ℕ) → (link_at net conn).live ≡ true → is_ready (link_at net conn) ≡ true → (link_at net conn).due ≡ true
 
+-- the act that was done last is Turn
+abbrev pub EndsWithTurnAct : List Act → Type 0
+EndsWithTurnAct acts = (front : List Act) × (acts ≡ front ++ act.Turn ∷ [])
+
 -- it follows its schedule
 pub record FollowsSchedule (net : MemNetState) : Type 0 where
   pub few : length net.acts < 2 ^ 64
@@ -142,6 +146,8 @@ pub record FollowsSchedule (net : MemNetState) : Type 0 where
   pub stops : net.done < length net.acts → net.answers ≡ length (passes (take net.done net.acts))
   -- while it rests, what can be read was told
   pub told : net.rested ≡ true → AllTold net
+  -- while it rests and acts are left, the act done last is Turn
+  pub turned : net.rested ≡ true → net.done < length net.acts → EndsWithTurnAct (take net.done net.acts)
 
 -- this event tells the act at a place
 abbrev pub IsEventAt : NetEvent → List Act → ℕ → Type 0

@@ -13,5 +13,4 @@ pub mod ReplayedLemmas
 pub mod Below
 pub mod All
 pub mod MadeLemmas
-pub mod UnlimitedLemmas
-pub mod StayLemmas
+pub mod BeginLemmas

@@ -1,9 +1,10 @@
 -- What comes of the acts of a schedule, where a run over its net is right and settled.
-use Rattle.ws_program.proofs.Below.{◌≡◌, ◌≢◌, ℕ, List, [], ◌∷◌, ◌++◌, Bool, true, false, cond, not, ◌&&◌, ◌||◌, ◌⊎◌, inl, inr, Option, Some, None, length, take, nat_eq, nat_lt, refl, sym, ap, ◌∙◌, append-nil, arith, take-length, nat_tests, list_any, ConfigValue, Left, PeerEnd, LinkFailed, Phase, Head, Open, Leaving, Ending, Gone, NoteValue, Act, Finish, sent, finish_of, finish_by, or_then, is_end, is_fault, LinkState, is_ready, is_finish, has_arrived, is_ending, MemNetState, FollowsSchedule, net_state, link_at, not_there, RouteTable, is_gone_by, is_accepted, is_gone_by_in, phase, is_gone_phase, is_reading, Right, LivedThroughout, by_cases, clash, both_left, both_right, unaccepted_phase, IsReplayed, is_end_of, is_fault_of, or_second, or_first, is_left, is_gone_in, Server, known_world, bus_server, gone-append, credit_of, is_write_failure, writes_fail}
+use Rattle.ws_program.proofs.Below.{◌≡◌, ◌≢◌, ℕ, List, [], ◌∷◌, Bool, true, false, cond, not, ◌&&◌, ◌||◌, ◌⊎◌, inl, inr, Some, length, take, nat_eq, nat_lt, refl, sym, ap, ◌∙◌, take-length, list_any, ConfigValue, Left, PeerEnd, LinkFailed, NoteValue, Act, Finish, sent, finish_of, finish_by, or_then, is_end, is_fault, LinkState, is_finish, has_arrived, is_ending, MemNetState, FollowsSchedule, net_state, link_at, not_there, RouteTable, is_gone_by, is_accepted, is_gone_by_in, phase, is_gone_phase, is_reading, Right, LivedThroughout, by_cases, clash, both_left, both_right, IsReplayed, is_end_of, is_fault_of, or_second, or_first, is_left, is_gone_in, Server, known_world, bus_server, gone-append, credit_of, is_write_failure, writes_fail}
 use Rattle.ws_kinds.specs.NoteValue as note
 use Rattle.link_trait.specs.declared.act.Act.TheVariants as act
 use Rattle.mem_net.specs.declared.mem_link.Finish.TheVariants as finish
 use Rattle.run_meaning.specs.Settled.{Settled}
+use Rattle.made_life.proofs.Resting.{arrived, given_all, reading_not_gone, reads_accepted, reads_arrived, reads_idle, sent_all}
 
 -- ---- a connection that is gone
 
@@ -16,14 +17,6 @@ gone_by_in d l [] e = clash false refl e
 gone_by_in d l (n ∷ ns) e = gone-append d (n ∷ []) ns ∙ by_cases (is_gone_by d l n)
     (λ here. or_first (is_gone_in d (n ∷ [])) (is_gone_in d ns) (gone_by d l n here))
     (λ later. or_second (is_gone_in d (n ∷ [])) (is_gone_in d ns) (gone_by_in d l ns (sym (ap (λ z. z || is_gone_by_in d l ns) later) ∙ e)))
-
-reading_not_gone : (p : Option Phase) → is_reading p ≡ true → is_gone_phase p ≡ false
-reading_not_gone None e = refl
-reading_not_gone (Some Head) e = refl
-reading_not_gone (Some Open) e = refl
-reading_not_gone (Some Leaving) e = refl
-reading_not_gone (Some Ending) e = refl
-reading_not_gone (Some Gone) e = clash false refl e
 
 -- ---- how a link finishes
 
@@ -127,10 +120,6 @@ is_fault_is finish.Failed e = refl
 
 -- ---- what is ready
 
-nothing_waits : (octets : List ℕ) (b : Bool) → (nat_lt 0 (length octets) || b) ≡ false → octets ≡ []
-nothing_waits [] b e = refl
-nothing_waits (x ∷ xs) b e = absurd (let z : nat_lt 0 (length (x ∷ xs)) ≡ true = grind (arith, nat_tests) in let y : (nat_lt 0 (length (x ∷ xs)) || b) ≡ true = or_first (nat_lt 0 (length (x ∷ xs))) b z in clash (nat_lt 0 (length (x ∷ xs)) || b) e y)
-
 was_answered : (a : Bool) (answered : Bool) (e : Finish) → (a || (not answered && is_finish e)) ≡ false → (e ≡ finish.Later) ⊎ (answered ≡ true)
 was_answered true answered e h = clash true h refl
 was_answered false true e h = inr refl
@@ -138,91 +127,60 @@ was_answered false false finish.Later h = inl refl
 was_answered false false finish.End h = clash true h refl
 was_answered false false finish.Failed h = clash true h refl
 
-all_waiting : (given waiting octets : List ℕ) → given ++ waiting ≡ octets → waiting ≡ [] → given ≡ octets
-all_waiting given waiting octets e none = sym (append-nil given) ∙ ap (λ (w : List ℕ). given ++ w) (sym none) ∙ e
-
 module _ {S : Type 0} (s : Server S) (f : ConfigValue) (t : RouteTable) (ns : List NoteValue) (net : MemNetState) (held : ℕ → List ℕ) (now : S)
     (right : Right s f t ns (net_state net) now held) where
   gone_reads : (d : ℕ) (l : Left) → is_reading (phase s ns d) ≡ true → is_gone_by_in d l ns ≡ true → ⊥
   gone_reads d l reads gone = clash (is_gone_phase (phase s ns d)) (reading_not_gone (phase s ns d) reads) ((known_world s f ns right.sound).gone d ∙ gone_by_in d l ns gone)
-
-  reads_accepted : (d : ℕ) → is_reading (phase s ns d) ≡ true → is_accepted d ns ≡ true
-  reads_accepted d reads =
-      by_cases (is_accepted d ns) (λ there. there) (λ away. clash (is_reading (phase s ns d)) (ap is_reading (unaccepted_phase s d ns away)) reads)
 
   module _ (follows : FollowsSchedule net) (whole : net.whole ≡ true) (done : net.done ≡ length net.acts)
       (settled : Settled s ns (net_state net) (record { pending = 0; gathered = []; backlog = held })) where
     all_acts : take net.done net.acts ≡ net.acts
     all_acts = ap (λ k. take k net.acts) done ∙ take-length net.acts
 
-    -- a link of which something is known arrived
-    arrived : (d : ℕ) (test : LinkState → Bool) → test (link_at net d) ≡ true → ((has_arrived net.acts d ≡ false) → test (link_at net d) ≡ false) → has_arrived net.acts d ≡ true
-    arrived d test shown away = by_cases (has_arrived net.acts d) (λ there. there) (λ none. clash (test (link_at net d)) (away none) shown)
-
-    sent_all : (d : ℕ) → has_arrived net.acts d ≡ true → (link_at net d).waiting ≡ [] → (link_at net d).given ≡ sent d net.acts
-    sent_all d there none =
-        all_waiting (link_at net d).given (link_at net d).waiting (sent d net.acts) ((follows.fits d there).came ∙ ap (λ zs. sent d zs) all_acts) none
-
     finish_all : (d : ℕ) → has_arrived net.acts d ≡ true → (link_at net d).finish ≡ finish_of d net.acts
     finish_all d there = (follows.fits d there).finish ∙ ap (λ zs. finish_of d zs) all_acts
 
-    reads_live : (d : ℕ) → is_reading (phase s ns d) ≡ true → (link_at net d).live ≡ true
-    reads_live d reads =
-        settled.live d ∙ ap (λ z. z && not (is_gone_phase (phase s ns d))) (reads_accepted d reads) ∙ ap not (reading_not_gone (phase s ns d) reads)
-
-    reads_arrived : (d : ℕ) → is_reading (phase s ns d) ≡ true → has_arrived net.acts d ≡ true
-    reads_arrived d reads = arrived d (λ link. link.live) (reads_live d reads) (λ none. ap (λ (link : LinkState). link.live) (not_there d net none))
-
-    reads_idle : (d : ℕ) → is_reading (phase s ns d) ≡ true → is_ready (link_at net d) ≡ false
-    reads_idle d reads =
-        by_cases (is_ready (link_at net d))
-        (λ ready. clash (link_at net d).due (settled.asked d reads) (follows.told settled.rested d (reads_live d reads) ready))
-        (λ idle. idle)
-
-    reads_drained : (d : ℕ) → is_reading (phase s ns d) ≡ true → (link_at net d).waiting ≡ []
-    reads_drained d reads = nothing_waits (link_at net d).waiting (not (link_at net d).answered && is_finish (link_at net d).finish) (reads_idle d reads)
-
     pub replay_given : (d : ℕ) → is_reading (phase s ns d) ≡ true → (net_state net).given d ≡ sent d net.acts
-    replay_given d reads = sent_all d (reads_arrived d reads) (reads_drained d reads)
+    replay_given d reads = given_all s ns net held follows settled d reads ∙ ap (sent d) all_acts
 
     -- a connection that is read was not told an end or a fault
     unanswered : (d : ℕ) → is_reading (phase s ns d) ≡ true → (link_at net d).answered ≡ true → ⊥
     unanswered d reads answered =
-        let fits = follows.fits d (reads_arrived d reads) in
+        let fits = follows.fits d (reads_arrived s ns net held follows settled d reads) in
         by_finish (link_at net d).finish refl (fits.answered answered).1
       where
         by_finish : (e : Finish) → (link_at net d).finish ≡ e → is_finish (link_at net d).finish ≡ true → ⊥
         by_finish finish.Later e h = clash (is_finish (link_at net d).finish) (ap is_finish e) h
         by_finish finish.End e h =
-            let fits = follows.fits d (reads_arrived d reads) in
+            let fits = follows.fits d (reads_arrived s ns net held follows settled d reads) in
             let ends : (net_state net).ended d ≡ true = fits.ended ∙ ap (λ z. z && is_end (link_at net d).finish) answered ∙ ap is_end e in
-            gone_reads d PeerEnd reads (right.follows.ended d (reads_accepted d reads) ∙ ends)
+            gone_reads d PeerEnd reads (right.follows.ended d (reads_accepted s ns net held d reads) ∙ ends)
         by_finish finish.Failed e h =
-            let fits = follows.fits d (reads_arrived d reads) in
+            let fits = follows.fits d (reads_arrived s ns net held follows settled d reads) in
             let breaks : (net_state net).broken d ≡ true = fits.broken (ap (λ z. z && is_fault (link_at net d).finish) answered ∙ ap is_fault e) in
-            gone_reads d LinkFailed reads (right.follows.broken d (reads_accepted d reads) ∙ breaks)
+            gone_reads d LinkFailed reads (right.follows.broken d (reads_accepted s ns net held d reads) ∙ breaks)
 
     pub replay_unended : (d : ℕ) → is_reading (phase s ns d) ≡ true → list_any (is_ending d) net.acts ≡ false
-    replay_unended d reads = by_answer (was_answered (nat_lt 0 (length (link_at net d).waiting)) (link_at net d).answered (link_at net d).finish (reads_idle d reads))
+    replay_unended d reads = by_answer (was_answered (nat_lt 0 (length (link_at net d).waiting)) (link_at net d).answered (link_at net d).finish (reads_idle s ns net held follows settled d reads))
       where
         by_answer : ((link_at net d).finish ≡ finish.Later) ⊎ ((link_at net d).answered ≡ true) → list_any (is_ending d) net.acts ≡ false
-        by_answer (inl later) = none_ends d net.acts (sym (finish_all d (reads_arrived d reads)) ∙ later)
+        by_answer (inl later) = none_ends d net.acts (sym (finish_all d (reads_arrived s ns net held follows settled d reads)) ∙ later)
         by_answer (inr answered) = absurd (unanswered d reads answered)
 
     pub replay_ended : (d : ℕ) → is_accepted d ns ≡ true → is_gone_by_in d PeerEnd ns ≡ true → (list_any (is_end_of d) net.acts ≡ true) × ((net_state net).given d ≡ sent d net.acts)
     replay_ended d accepted gone =
         let ends : (link_at net d).ended ≡ true = sym (right.follows.ended d accepted) ∙ gone in
-        let there = arrived d (λ link. link.ended) ends (λ none. ap (λ (link : LinkState). link.ended) (not_there d net none)) in
+        let there = arrived s ns net held follows settled d (λ link. link.ended) ends (λ none. ap (λ (link : LinkState). link.ended) (not_there d net none)) in
         let fits = follows.fits d there in
         let both : ((link_at net d).answered && is_end (link_at net d).finish) ≡ true = sym fits.ended ∙ ends in
         let answered = both_left (link_at net d).answered (is_end (link_at net d).finish) both in
         let finished = is_end_is (link_at net d).finish (both_right (link_at net d).answered (is_end (link_at net d).finish) both) in
-        (some_end d net.acts (sym (finish_all d there) ∙ finished), sent_all d there (fits.answered answered).0)
+        (some_end d net.acts (sym (finish_all d there) ∙ finished), sent_all s ns net held follows settled d there (fits.answered answered).0 ∙ ap (sent d) all_acts)
 
     pub replay_failed : (d : ℕ) → is_accepted d ns ≡ true → is_gone_by_in d LinkFailed ns ≡ true → list_any (is_fault_of d) net.acts ≡ true
     replay_failed d accepted gone =
         let breaks : (link_at net d).broken ≡ true = sym (right.follows.broken d accepted) ∙ gone in
-        let there = arrived d (λ link. link.broken) breaks (λ none. ap (λ (link : LinkState). link.broken) (not_there d net none)) in
+        let there = arrived s ns net held follows settled d (λ link. link.broken) breaks (λ none. ap (λ (link : LinkState). link.broken) (not_there d net none)) in
         let fits = follows.fits d there in
         by_cases ((link_at net d).answered && is_fault (link_at net d).finish)
         (λ both. some_fault d net.acts (sym (finish_all d there) ∙ is_fault_is (link_at net d).finish (both_right (link_at net d).answered (is_fault (link_at net d).finish) both)))
@@ -234,7 +192,7 @@ module _ {S : Type 0} (s : Server S) (f : ConfigValue) (t : RouteTable) (ns : Li
     pub replay_short : (d : ℕ) → is_accepted d ns ≡ true → is_gone_phase (phase s ns d) ≡ false → held d ≢ [] → credit_of d net.acts ≡ Some (length ((net_state net).taken d))
     replay_short d accepted stays some =
         let lives : (link_at net d).live ≡ true = settled.live d ∙ ap (λ z. z && not (is_gone_phase (phase s ns d))) accepted ∙ ap not stays in
-        let there = arrived d (λ link. link.live) lives (λ none. ap (λ (link : LinkState). link.live) (not_there d net none)) in
+        let there = arrived s ns net held follows settled d (λ link. link.live) lives (λ none. ap (λ (link : LinkState). link.live) (not_there d net none)) in
         ap (credit_of d) (sym all_acts) ∙ (follows.fits d there).takes.full lives (settled.waits d some)
 
 pub replay_all : (admits : List ℕ → Bool) (f : ConfigValue) (t : RouteTable) (ns : List NoteValue) (net : MemNetState) (held replies : ℕ → List ℕ) → Right (bus_server admits replies) f t ns (net_state net) tt held

@@ -1,5 +1,5 @@
 -- What a run over a net in memory comes to, by what the loop says of it.
-use Rattle.ws_program.proofs.Below.{◌≡◌, ◌<◌, ◌≤◌, ◌+◌, ◌-◌, ◌^◌, ℕ, List, [], ◌∷◌, ◌++◌, Option, Some, None, Bool, true, false, cond, nat_eq, map, length, refl, sym, ap, ◌∙◌, subst, arith, count_by, length-append, ConfigValue, NoteValue, RecorderState, told_by, NetEvent, Act, passes, arrivals, sent, new_link, MemNetState, FollowsSchedule, net_state, start_net, link_of, RouteTable, AreReplies, HubState, server, IsTable, table_of, Settled, AreThere, backlog_at, there_first, intake_at, Intakes, kept_at_first, Runs, Beginning, IsRight, IsSettled, IsLivedThroughout, EndsWithTurn, AreFew, KeptAll, AreViews, no_view, IntakeView, AreNotes, IsReplayed, IsRunOf, CountsItems, AreLinks, links_of, is_gone_phase, phase, plain, numbered_at, by_cases, append-nil, away_by_gone, there_by_phase, accepted_known, is_turn_act, CanRun, HasRun, bus_said, routes_of_bus, bus_server, BetweenTurns, IsBetweenTurns, at_first}
+use Rattle.ws_program.proofs.Below.{◌≡◌, ◌<◌, ◌≤◌, ◌+◌, ◌-◌, ◌^◌, ℕ, List, [], ◌∷◌, ◌++◌, Option, Some, None, Bool, true, false, cond, nat_eq, map, length, refl, sym, ap, ◌∙◌, subst, arith, count_by, length-append, ConfigValue, NoteValue, RecorderState, told_by, NetEvent, Act, passes, arrivals, sent, new_link, MemNetState, FollowsSchedule, net_state, start_net, link_of, RouteTable, AreReplies, HubState, server, IsTable, table_of, Settled, AreThere, backlog_at, there_first, intake_at, Intakes, kept_at_first, Runs, Beginning, IsRight, IsSettled, IsLivedThroughout, EndsWithTurn, AreFew, KeptAll, AreViews, no_view, IntakeView, AreNotes, IsReplayed, IsRunOf, CountsItems, AreLinks, links_of, is_gone_phase, phase, plain, numbered_at, by_cases, append-nil, away_by_gone, there_by_phase, accepted_known, is_turn_act, CanRun, HasRun, routes_of_bus, bus_server, BetweenTurns, IsBetweenTurns, at_first}
 use Rattle.hub_lines.specs.State.{Server, pending_at}
 use Rattle.hub_notes.specs.Progress.{Progress}
 use Rattle.link_trait.specs.declared.net.NetEvent.TheVariants as event
@@ -8,10 +8,7 @@ use Rattle.ws_program.proofs.FewLemmas.{few_items}
 use Rattle.ws_program.proofs.StopLemmas.{passes_few}
 use Rattle.ws_program.proofs.EndLemmas.{ran_stopped, ran_never_spent, ran_never_failed}
 use Rattle.ws_program.proofs.ReplayedLemmas.{replay_all}
-
--- what the command begins with
-abbrev pub bus_beginning : (List ℕ → Bool) → ConfigValue → RouteTable → Beginning (Unit {0})
-bus_beginning admits f table = record { start = tt; after = λ state _. state; said = λ _ event. bus_said event; admits = admits; config = f; table = table }
+pub use Rattle.ws_program.specs.BusServer.{bus_beginning}
 
 -- there is no intake yet
 abbrev pub no_views : ℕ → IntakeView

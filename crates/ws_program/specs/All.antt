@@ -40,7 +40,7 @@ pub use Rattle.ws_program.specs.BusServer.{bus_server}
 pub use Rattle.ws_program.specs.Echo.{EchoEnds, EchoesAll, EchoesFront, EndsDone, EndsPast, EndsTooLong, ReadsNoFurther, RefusesTooLong, has_ended, max_input, max_read}
 pub use Rattle.ws_program.specs.Replay.{AnswersSchedule, AnswersText, CanRun, GivesAll, HasRun, IsRefusal, IsReportOfText, IsTaken, RefusesAs, ReplayEnds, ReplaysAll, ReplaysFront, StopsReading, WritesNothing}
 pub use Rattle.ws_program.specs.Replayed.{AreLinks, IsNew, IsReplayed, IsReport, IsRunOf, CountsItems, all_link_lines, count_at, is_end_of, is_fault_of, is_stop, is_turn_act, items_there, links_of}
-pub use Rattle.ws_program.specs.Made.{Counts, IsSummary, IsSummaryLine, MadeEnds, WritesSummary, is_counted, is_drop, over_accepted, sums_over, with_link}
+pub use Rattle.ws_program.specs.Made.{Counts, IsSummary, IsSummaryLine, MadeEnds, WritesSummary, is_counted, over_accepted, sums_over, with_link}
 pub use Rattle.ws_program.specs.NewServer.{IsNewServer}
 pub use Rattle.ws_program.specs.Serve.{AreNotesOf, EndsTurns, FailsInTurn, FailsToListen, IsRightRun, IsServed, IsUnused, LeavesSink, Outer, RunsNew, Scene, ServeEnds, ServesTo, ServesTurns, Service, WritesServed, outer, scene, served_line}
 pub use Rattle.ws_program.specs.Status.{exit_code_of}

@@ -9,4 +9,5 @@ pub mod Replay
 pub mod NewServer
 pub mod Serve
 pub mod Made
+pub mod Begun
 pub mod All

@@ -1,14 +1,14 @@
 -- What the command `made` did: the summary of a run of the schedule that a seed makes.
 use Rattle.std.specs.Prelude.{◌≡◌, ◌+◌, ℕ, List, Option, Bool, true, false, length, map}
+use Rattle.std.specs.List.{list_any}
 use Rattle.ws_kinds.specs.ConfigValue.{usual_config}
-use Rattle.ws_kinds.specs.NoteValue as note
 use Rattle.ws_kinds.specs.NoteValue.{NoteValue}
 use Rattle.wire_meaning.specs.Answer.{all_spelled}
 use Rattle.mem_net.specs.MemNet.{MemNetState, net_state}
 use Rattle.schedule_text.specs.Output.{WritesText}
 use Rattle.bus_handler.specs.Bus.{routes_of_bus}
 use Rattle.made_schedule.specs.Made.{made_acts}
-use Rattle.made_life.specs.Life.{is_message}
+use Rattle.made_life.specs.Life.{is_drop, is_message, is_want, room}
 use Rattle.made_schedule.specs.Summary.{summary_line}
 use Rattle.made_schedule.specs.declared.summary.Summary.{Summary}
 use Rattle.run_meaning.specs.Counts.{accepted_by, gather, is_accepted, is_gone_in, number_of, total}
@@ -22,11 +22,6 @@ use Rattle.ws_program.specs.declared.made.Counted.TheVariants.{Turns, Messages, 
 use Rattle.ws_program.specs.declared.made.Sums.{Sums}
 use Rattle.ws_program.specs.declared.status.Status.{Status}
 use Rattle.ws_program.specs.declared.status.Status.TheVariants.{Done, WriteFault, OutOfMemory}
-
--- the note says that an item was dropped
-abbrev pub is_drop : NoteValue → Bool
-is_drop (note.dropped conn index held) = true
-is_drop _ = false
 
 -- the sum of a number of each connection that was accepted
 abbrev pub over_accepted : (ℕ → ℕ) → List NoteValue → ℕ
@@ -61,7 +56,9 @@ pub record IsSummary (admits : List ℕ → Bool) (seed : ℕ) (summary : Summar
   pub none_dropped : summary.dropped ≡ 0
   -- where all connections are accepted, all messages are read
   pub all_messages : summary.connections ≡ 64 → summary.messages ≡ 8000
-  -- and where all items are sent too, 9,080,256 octets are taken
+  -- they are, and all items are sent, where memory is not short and the room may be subscribed to
+  pub complete : admits room ≡ true → list_any is_want notes ≡ false → (summary.connections ≡ 64) × (summary.items ≡ 504064)
+  -- where all items are sent too, 9,080,256 octets are taken
   pub all_octets : summary.connections ≡ 64 → summary.items ≡ 504064 → summary.octets ≡ 9080256
 
 -- these octets are the line of such a summary

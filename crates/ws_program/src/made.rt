@@ -1,23 +1,28 @@
 //! The command `made`: a schedule is made from a seed and run over a net in memory, and the summary of its run is written.
 
-ghost use Rattle.std.specs.Prelude.{◌≡◌, ◌+◌, length, IfOk, IfSome};
+ghost use Rattle.std.specs.Prelude.{◌≡◌, ◌+◌, length, IfOk, IfSome, OnOk};
+ghost use Rattle.std.specs.List.{count_by};
 ghost use Rattle.ws_kinds.specs.NoteValue.{note_value};
 ghost use Rattle.mem_net.specs.MemNet.{net_state};
 ghost use Rattle.topic_guard.specs.Admits.{admits};
 ghost use Rattle.run_meaning.specs.Counts.{accepted_by, gather, number_of, total};
-ghost use Rattle.ws_program.specs.Replayed.{count_at};
+ghost use Rattle.ws_program.specs.Begun.{HasBegun, HasMade, IsUnrun, can_begin, seen};
+ghost use Rattle.ws_program.specs.Replayed.{count_at, is_turn_act};
 ghost use Rattle.ws_program.specs.Made.{Counts, IsSummaryLine, MadeEnds, is_counted, sums_over, with_link};
 
-use crate::replay::run_schedule;
-use crate::report::accepted_by;
+use crate::replay::{Replayed, is_whole, turns_of};
+use crate::report::{accepted_by, links_in_range};
+use crate::serve::NewServer;
 use crate::status::Status;
+use bus_handler::Bus;
 use hub_core::Hub;
-use link_trait::{Sink, write_all};
+use link_trait::{Outside, Sink, write_all};
+use loop_runner::{Ran, run};
 use made_schedule::{Summary, made};
-use mem_net::MemNet;
+use mem_net::{MemNet, Schedule};
 use std::alloc::{AllocError, Global};
 use topic_guard::TopicGuard;
-use ws_kinds::{Config, Conn, Note, Phase, Recorder};
+use ws_kinds::{Config, Conn, Note, Phase, Recorder, Tally};
 
 /// Makes a schedule from the seed, runs it over a net in memory with the usual configuration and the built-in handler on its three
 /// routes, where peers may subscribe to the topics that the guard allows, and writes one line, the summary of the run, to the sink.
@@ -46,11 +51,92 @@ fn line_of(alloc: Global, seed: u64, guard: &TopicGuard) -> Result<Vec<u8>, Allo
     ensures { IfOk result (λ line. IsSummaryLine (admits guard.now.rule) seed line.items) }
 {
     let schedule = made(alloc, seed)?;
-    let replayed = run_schedule(alloc, Config::usual(), guard, schedule)?;
+    let replayed = run_made(alloc, guard, schedule)?;
     let Some(summary) = summary_of(&replayed.hub, &replayed.net, &replayed.watch) else {
         return Err(AllocError);
     };
     summary.line(alloc, seed)
+}
+
+/// Runs a schedule to its end, its first turn by itself. An error says that there was too little memory, also for a note or for what a
+/// link took.
+fn run_made(alloc: Global, guard: &TopicGuard, schedule: Schedule) -> Result<Replayed, AllocError>
+    requires { can_begin schedule }
+    ensures { IfOk result (λ replayed. HasMade (admits guard.now.rule) schedule replayed.hub replayed.net replayed.watch) }
+{
+    let turns = turns_of(schedule.acts()) as u64;
+    let mut server = NewServer::new(alloc, Config::usual())?;
+    let net = MemNet::new(alloc, schedule)?;
+    let watch = Recorder::new(alloc);
+    let tally = Tally::new();
+    let mut out = Outside { net, watch, tally };
+    first_turn(&mut server, guard, &mut out)?;
+    other_turns(server, guard, out, turns)
+}
+
+/// Makes the first turn of a run. An error says that there was too little memory, also for a note or for what a link took.
+fn first_turn(
+    server: &mut NewServer,
+    guard: &TopicGuard,
+    out: &mut Outside<MemNet, Recorder>,
+) -> Result<(), AllocError>
+    requires { IsUnrun (seen server.old out.old) }
+    ensures acts { OnOk result (out.new.net.acts ≡ out.old.net.acts) }
+    ensures begun { OnOk result (HasBegun (admits guard.now.rule) (seen server.new out.new)) }
+{
+    let ran = run(
+        &mut server.hub,
+        &mut server.intakes,
+        &server.routes,
+        out,
+        &mut Bus,
+        guard,
+        1,
+    );
+    if !is_whole(&out.net, &out.watch) {
+        return Err(AllocError);
+    }
+    match ran {
+        Ran::Spent => Ok(()),
+        Ran::Stopped(_) => unreachable!("the acts make more turns"),
+        Ran::NetFault => unreachable!("a net in memory does not fail to say what is next"),
+    }
+}
+
+/// Makes all turns of a run but the first one, which was made: as many as the acts make. An error says that there was too little
+/// memory, also for a note or for what a link took.
+fn other_turns(
+    mut server: NewServer,
+    guard: &TopicGuard,
+    mut out: Outside<MemNet, Recorder>,
+    turns: u64,
+) -> Result<Replayed, AllocError>
+    requires begun { HasBegun (admits guard.now.rule) (seen server out) }
+    requires turns { turns ≡ count_by is_turn_act out.net.acts }
+    ensures { IfOk result (λ replayed. HasMade (admits guard.now.rule) out.net.acts replayed.hub replayed.net replayed.watch) }
+{
+    let ran = run(
+        &mut server.hub,
+        &mut server.intakes,
+        &server.routes,
+        &mut out,
+        &mut Bus,
+        guard,
+        turns,
+    );
+    if !is_whole(&out.net, &out.watch) {
+        return Err(AllocError);
+    }
+    match ran {
+        Ran::Stopped(_) => {
+            let NewServer { hub, .. } = server;
+            let Outside { net, watch, .. } = out;
+            links_in_range(&hub, &net, &watch);
+            Ok(Replayed { hub, net, watch })
+        }
+        Ran::Spent => unreachable!("there is one turn more than the acts make"),
+        Ran::NetFault => unreachable!("a net in memory does not fail to say what is next"),
+    }
 }
 
 /// The summary of a run, unless a sum is too great.

@@ -171,7 +171,7 @@ pub(crate) fn run_schedule(
 }
 
 /// Whether a run was recorded, with each of its notes, and no write failed.
-fn is_whole(net: &MemNet, watch: &Recorder) -> bool
+pub(crate) fn is_whole(net: &MemNet, watch: &Recorder) -> bool
     ensures net { result ≡ true → net.now.whole ≡ true }
     ensures watch { result ≡ true → watch.now.whole ≡ true }
     ensures few { length watch.now.notes < 2 ^ 64 }
@@ -183,7 +183,7 @@ fn is_whole(net: &MemNet, watch: &Recorder) -> bool
 }
 
 /// How many of the acts are turns.
-fn turns_of(acts: &[Act]) -> usize
+pub(crate) fn turns_of(acts: &[Act]) -> usize
     ensures { result ≡ count_by is_turn_act acts.now }
 {
     acts.iter().filter(|act| is_turn(act)).count()

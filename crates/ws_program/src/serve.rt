@@ -56,14 +56,14 @@ pub fn serve_run<N: Net, W: Watch, K: Sink>(
 
 /// What a server has before its first turn.
 #[derive(Drop)]
-struct NewServer {
-    hub: Hub,
-    intakes: Intakes,
-    routes: Routes,
+pub(crate) struct NewServer {
+    pub(crate) hub: Hub,
+    pub(crate) intakes: Intakes,
+    pub(crate) routes: Routes,
 }
 
 impl NewServer {
-    fn new(alloc: Global, config: Config) -> Result<NewServer, AllocError>
+    pub(crate) fn new(alloc: Global, config: Config) -> Result<NewServer, AllocError>
         ensures config { IfOk result (λ server. server.hub.config ≡ config) }
         ensures new { IfOk result (λ server. IsNewServer server.hub server.intakes server.routes) }
     {

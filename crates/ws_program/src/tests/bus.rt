@@ -2,6 +2,7 @@
 
 use super::replay::{Lines, REPLY, compared, hex_of, report_of};
 use super::{sink, source};
+use crate::made::made_run;
 use crate::reads::MAX_READ;
 use crate::replay::replay_run;
 use std::test::*;
@@ -176,16 +177,21 @@ const PUBLIC: &str =
     "a 1 *\nr 1 BUS\nr 1 818600000000'+pub/a'\nr 1 818500000000'+priv'\nr 1 818500000000'+pub/'\nr 1 818400000000'+pub'\nr 1 818100000000'+'\n";
 
 /// What was not served of these, where a guard allows the topics that begin with `pub/` alone.
-fn public_report(rt: &HostRuntime) -> Result<String, Fail> {
+fn public_report(rt: &HostRuntime, guard: &TopicGuard) -> Result<String, Fail> {
     let text = format!(in rt.alloc(); "corked 1\n{}", filled(rt, PUBLIC)?)?;
     let mut source = source(rt, text.as_bytes(), MAX_READ, &[])?;
     let mut sink = sink(rt, MAX_READ, &[])?;
-    let mut name = Name::new();
-    name.try_extend_from_slice(b"pub/").unwrap();
-    let test: Test = Box::new(rt.alloc(), |topic: &[u8]| topic.starts_with(b"pub/"))?;
-    let guard = TopicGuard::new(TopicRule::Only(name), test);
-    replay_run(rt.alloc(), Config::usual(), &guard, &mut source, &mut sink);
+    replay_run(rt.alloc(), Config::usual(), guard, &mut source, &mut sink);
     compared(rt, Lines::Orders, sink.octets())
+}
+
+/// The line of the schedule that 7 makes, where the guard does not allow its room: nobody is sent more than the reply.
+fn closed_room(rt: &HostRuntime, guard: &TopicGuard) -> Result<String, Fail> {
+    let mut sink = sink(rt, MAX_READ, &[])?;
+    made_run(rt.alloc(), 7, guard, &mut sink);
+    let mut line = Vec::new(rt.alloc());
+    line.extend_from_slice(sink.octets())?;
+    Ok(String::from_utf8(line).ok().ok_or("not UTF-8")?)
 }
 
 #[test]
@@ -193,9 +199,16 @@ fn rooms_and_the_bus(rt: HostRuntime) -> Result<(), Fail> {
     assert_eq!(rt; first_other(&rt, Config::usual(), ROWS)?, None);
     let refused =
         "unserved 1 0 forbidden\nunserved 1 0 forbidden\nunserved 1 0 badtopic\nlink 1 0 REPLY\n";
+    let mut name = Name::new();
+    name.try_extend_from_slice(b"pub/").unwrap();
+    let test: Test = Box::new(rt.alloc(), |topic: &[u8]| topic.starts_with(b"pub/"))?;
+    let guard = TopicGuard::new(TopicRule::Only(name), test);
     assert_eq!(rt;
-        public_report(&rt)?.as_str(),
+        public_report(&rt, &guard)?.as_str(),
         filled(&rt, refused)?.as_str()
     );
+    let closed =
+        "made 7: turns 502 connections 64 messages 8000 items 64 octets 8256 dropped 0 sum 693824\n";
+    assert_eq!(rt; closed_room(&rt, &guard)?.as_str(), closed);
     Ok(())
 }

@@ -1,4 +1,4 @@
-use Rattle.ws_program.proofs.All.{◌≡◌, ◌∙◌, ◌+◌, true, false, cond, ap, sym, take, arith, note_value, number_of, count_more}
+use Rattle.ws_program.proofs.All.{◌∙◌, ◌+◌, cond, ap, sym, take, arith, note_value, number_of, count_more}
 use Rattle.ws_program.proofs.Below.{is_counted}
 use Rattle.ws_program.proofs.made.count_of.Goals as goal
 use Rattle.ws_program.proofs.made.count_of.Goals.{then-counts, else-counts}

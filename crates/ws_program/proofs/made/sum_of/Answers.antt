@@ -1,4 +1,4 @@
-use Rattle.ws_program.proofs.All.{◌≡◌, arith, sum_more}
+use Rattle.ws_program.proofs.All.{arith, sum_more}
 use Rattle.ws_program.proofs.made.sum_of.Goals as goal
 
 pub octets-preserved : goal.octets-preserved

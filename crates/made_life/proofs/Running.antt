@@ -1,46 +1,61 @@
 -- In a run of a made schedule no connection is gone: nobody ends octets or fails a link, no tick comes, and nothing that is heard ends a
--- connection.
-use Rattle.ws_program.proofs.Below.{◌≡◌, ℕ, List, [], ◌∷◌, ◌++◌, Option, Some, None, Bool, true, false, not, nat_eq, cond, length, take, refl, sym, ap, ◌∙◌, subst, list_all, list_any, list_any-append, take-length, by_cases, clash, Act, NoteValue, NetEvent, MemNetState, FollowsSchedule, LinkState, link_at, net_state, not_there, sent, passes, is_accepted, is_gone_in, is_gone_by_in, is_gone_phase, phase, made_acts, routes_of_bus, bus_server, IsReplayed, is_end_of, is_fault_of, known_world, Left, PeerEnd, LinkFailed}
-use Rattle.ws_program.proofs.Below.{accepted-append, accepted_by, accepted_known, append_assoc, bus_said, gather, gather-append, map, number_of, option_to_list, order_on, or_second, total, EventValue, WhatValue, OrderValue, Phase, Head, Open, Leaving, Ending, Gone}
-use Rattle.ws_program.proofs.Below.{AreReplies, flat_map, plain}
-use Rattle.std.proofs.Common.{◌||◌, ◌&&◌, ◌≤◌, ◌≢◌, ◌+◌, ◌*◌, nat_le, arith}
-use Rattle.std.specs.Option.{unwrap_or}
+-- connection. So all messages are noted, and the items of each connection have so many octets.
+use Rattle.std.proofs.Common.{◌≡◌, ◌≤◌, ◌+◌, ◌*◌, ◌&&◌, ◌||◌, ℕ, List, [], ◌∷◌, ◌++◌, Option, Some, None, Bool, true, false, not, nat_eq, nat_le, cond, length, map, take, refl, sym, ap, ◌∙◌, subst, arith, append_assoc}
+use Rattle.std.specs.List.{flat_map, list_all, list_any}
+use Rattle.std.specs.Option.{option_to_list, unwrap_or}
+use Rattle.std.proofs.Math.Seq.{take-length}
+use Rattle.std.proofs.lemmas.Bool.{or_right as or_second}
 use Rattle.std.proofs.lemmas.Bool.Decides.{nat_tests}
-use Rattle.std.proofs.lemmas.List.Folds.{list_all-append}
-use Rattle.ws_kinds.proofs.Facts.{and_left, and_right, equal_is, or_left, same_number as itself}
+use Rattle.std.proofs.lemmas.List.Folds.{list_all-append, list_any-append}
+use Rattle.ws_kinds.proofs.Facts.{and_left, and_right, by_cases, clash, equal_is, or_left, same_number as itself}
 use Rattle.ws_kinds.specs.ConfigValue.{usual_config}
 use Rattle.ws_kinds.specs.NoteValue as note
+use Rattle.ws_kinds.specs.NoteValue.{NoteValue}
 use Rattle.ws_kinds.specs.EventValue as value
+use Rattle.ws_kinds.specs.EventValue.{EventValue, WhatValue}
 use Rattle.ws_kinds.specs.OrderValue as order
+use Rattle.ws_kinds.specs.OrderValue.{OrderValue}
 use Rattle.ws_kinds.specs.declared.kind.Kind.TheVariants.{Text}
+use Rattle.ws_kinds.specs.declared.note.Left.{Left}
+use Rattle.ws_kinds.specs.declared.note.Left.TheVariants.{Finished, Idle, LinkFailed, PeerEnd}
+use Rattle.wire_meaning.specs.Answer.{all_spelled}
 use Rattle.wire_meaning.specs.Event as wire
-use Rattle.bus_handler.specs.Bus.{commanded}
-use Rattle.ws_kinds.specs.declared.note.Left.TheVariants.{Idle, Finished}
-use Rattle.link_trait.specs.declared.act.Act.TheVariants as act
-use Rattle.link_trait.specs.declared.net.NetEvent.TheVariants as event
+use Rattle.link_trait.specs.declared.act.Act.{Act}
+use Rattle.mem_net.specs.Acts.{sent}
+use Rattle.mem_net.specs.LinkState.{LinkState}
+use Rattle.mem_net.specs.MemNet.{MemNetState, link_at, net_state}
 use Rattle.mem_net.specs.Schedule.{has_arrived}
+use Rattle.mem_net.proofs.Acting.{not_there}
+use Rattle.bus_handler.specs.Bus.{bus_said, commanded, order_on, routes_of_bus}
+use Rattle.made_schedule.specs.Made.{made_acts}
 use Rattle.made_schedule.specs.Message.{body_of, octets_of}
 use Rattle.upgrade_head.specs.Judged.{Judged}
-use Rattle.wire_meaning.specs.Answer.{all_spelled}
-use Rattle.run_meaning.specs.Replies.{is_opened}
-use Rattle.run_meaning.specs.Counts.{has_number}
+use Rattle.run_meaning.specs.Counts.{accepted_by, gather, has_number, is_accepted, is_gone_by_in, is_gone_in, number_of, total}
 use Rattle.run_meaning.specs.Life.{Heard, IsLife, Reaches, heard, heard_by, last_frame, life_by, opened, read, refused, to_hear}
-use Rattle.run_meaning.specs.Right.{is_arrival}
+use Rattle.run_meaning.specs.Lines.{is_gone_phase, phase, plain}
 use Rattle.run_meaning.specs.Notes.{conn_of, is_gone, is_gone_by}
 use Rattle.run_meaning.specs.Quiet.{is_tick}
-use Rattle.run_meaning.specs.Settled.{is_ending, is_reading}
+use Rattle.run_meaning.specs.Replies.{AreReplies, is_opened}
+use Rattle.run_meaning.specs.Right.{is_arrival}
+use Rattle.run_meaning.specs.Server.{Server}
+use Rattle.run_meaning.specs.Settled.{is_ending}
+use Rattle.run_meaning.proofs.Parts.{accepted-append, gather-append}
+use Rattle.run_laws.proofs.WorldLemmas.{accepted_known}
+use Rattle.run_kept.proofs.KnownLemmas.{known_world}
 use Rattle.made_life.specs.Life.{goes_on, is_message, is_message_heard, made_life}
 use Rattle.made_life.specs.Sending.{numbers, states_of}
+use Rattle.made_life.specs.Turn.{RunsMade}
+use Rattle.made_life.proofs.Accepting.{answer_length}
+use Rattle.made_life.proofs.Beginning.{reading_of}
 use Rattle.made_life.proofs.Counting.{made_count}
 use Rattle.made_life.proofs.Hearing.{all_accepted, is_within, life_messages, messages_heard, opened_once}
-use Rattle.made_life.proofs.Accepting.{answer_length}
-use Rattle.made_life.proofs.Reading.{body_length}
-use Rattle.made_life.proofs.Sending.{made_sent}
-use Rattle.made_life.proofs.Weights.{is_short_body, is_short_event, is_short_note, is_short_order, items_weigh}
-use Rattle.made_life.proofs.Room.{is_no_close, never_closed, opens_elsewhere}
 use Rattle.made_life.proofs.Judging.{admitted, judged_then, life_is, life_within}
-use Rattle.made_life.proofs.Passing.{is_other, made_alone, made_arrivals}
+use Rattle.made_life.proofs.Passing.{made_alone, made_arrivals}
+use Rattle.made_life.proofs.Reading.{body_length}
+use Rattle.made_life.proofs.Room.{is_no_close, never_closed, opens_elsewhere}
+use Rattle.made_life.proofs.Sending.{made_sent}
 use Rattle.made_life.proofs.Staying.{arrives_within, front_all, front_goes_on, hear_all, made_goes_on, no_stretch, not_ending, untimed}
+use Rattle.made_life.proofs.Weights.{is_short_body, is_short_event, is_short_note, is_short_order, items_weigh}
 
 -- ---- notes and acts
 
@@ -86,22 +101,6 @@ opened_note c (n ∷ ns) some = by_cases (is_opened c n) (λ here. first n here)
     first (note.opened d route param) here = record { before = []; rest = ns; route = route; param = param; split = ap (λ k. note.opened k route param ∷ ns) (equal_is d c here) }
     first _ here = clash false refl here
 
--- an act of a kind that is not there
-any_other : (p : Act → Bool) (acts : List Act) → ((a : Act) → p a ≡ true → is_other a ≡ true) → list_any p acts ≡ true → list_any is_other acts ≡ true
-any_other p [] each some = some
-any_other p (a ∷ acts) each some = by_cases (p a) (λ here. ap (λ b. b || list_any is_other acts) (each a here)) (λ there.
-    let later = any_other p acts each (ap (λ b. b || list_any p acts) (sym there) ∙ some) in
-    by_cases (is_other a) (λ yes. ap (λ b. b || list_any is_other acts) yes) (λ no. ap (λ b. b || list_any is_other acts) no ∙ later))
-
-end_other : (c : ℕ) (a : Act) → is_end_of c a ≡ true → is_other a ≡ true
-end_other c (act.End d) here = refl
-end_other c _ here = clash false refl here
-
-fault_other : (c : ℕ) (a : Act) → is_fault_of c a ≡ true → is_other a ≡ true
-fault_other c (act.ReadFails d) here = refl
-fault_other c (act.WriteFails d) here = refl
-fault_other c _ here = clash false refl here
-
 no_life : (life : List Heard) → IsLife routes_of_bus 16384 [] life → life ≡ []
 no_life life is = is.says ∙ ap (life_by 16384 []) is.judged
 
@@ -113,15 +112,6 @@ all_pass p before (n ∷ ns) each = rw (each before ns n refl) (all_pass p (befo
 pub same_sums : (f g : ℕ → ℕ) (xs : List ℕ) → ((c : ℕ) → has_number c xs ≡ true → f c ≡ g c) → total (map f xs) ≡ total (map g xs)
 same_sums f g [] same = refl
 same_sums f g (x ∷ xs) same = rw (same x (rw (itself x) refl), same_sums f g xs (λ c there. same c (or_second (nat_eq c x) (has_number c xs) there))) refl
-
--- a connection that is there and not ending is read
-reading_of : (p : Option Phase) → p ≢ None → is_gone_phase p ≡ false → is_ending p ≡ false → is_reading p ≡ true
-reading_of None known stays goes = absurd (known refl)
-reading_of (Some Head) known stays goes = refl
-reading_of (Some Open) known stays goes = refl
-reading_of (Some Leaving) known stays goes = refl
-reading_of (Some Ending) known stays goes = clash true goes refl
-reading_of (Some Gone) known stays goes = clash true stays refl
 
 -- the opening is not on the bus
 abbrev is_elsewhere : Heard → Bool
@@ -193,22 +183,19 @@ made_short c seed = each (states_of c seed)
 
 -- ---- the run
 
-module _ (admits : List ℕ → Bool) (replies : ℕ → List ℕ) (seed : ℕ) (ns : List NoteValue) (net : MemNetState) (held : ℕ → List ℕ)
-    (r : IsReplayed admits usual_config routes_of_bus (made_acts seed) ns (net_state net) held replies) (follows : FollowsSchedule net) (acts_are : net.acts ≡ made_acts seed)
-    (used : net.done ≡ length net.acts) (passed : (net_state net).passed ≡ passes (made_acts seed) ++ event.Stop ∷ []) where
+module _ {S : Type 0} (s : Server S) (now : S) (seed : ℕ) (ns : List NoteValue) (net : MemNetState) (held : ℕ → List ℕ) (r : RunsMade s now seed ns net held) where
   given_front : (c : ℕ) → has_arrived net.acts c ≡ true → (link_at net c).given ++ (link_at net c).waiting ≡ sent c (made_acts seed)
-  given_front c there = (follows.fits c there).came ∙ ap (sent c) (ap (λ k. take k net.acts) used ∙ take-length net.acts ∙ acts_are)
+  given_front c there = (r.follows.fits c there).came ∙ ap (sent c) (ap (λ k. take k net.acts) r.used ∙ take-length net.acts ∙ r.acts_are)
 
   -- what holds of all that is heard of a connection by its octets holds of what was heard
   heard_all : (p : Heard → Bool) → ((c : ℕ) → list_all p (made_life c seed) ≡ true) → (c : ℕ) → is_accepted c ns ≡ true → list_all p (heard c ns) ≡ true
   heard_all p holds c accepted =
-      let lived = r.right.lived c accepted in
-      let s = bus_server admits replies in
+      let lived = r.ends.right.lived c accepted in
       front_all p (is_gone_phase (phase s ns c)) (heard c ns) (to_hear (last_frame s ns c) lived.life) lived.reaches
       (hear_all p (last_frame s ns c) lived.life
       (by_cases (has_arrived net.acts c)
       (λ there.
-      let (low, high) = arrives_within (made_acts seed) 64 c (made_arrivals seed) (ap (λ (xs : List Act). has_arrived xs c) (sym acts_are) ∙ there) in
+      let (low, high) = arrives_within (made_acts seed) 64 c (made_arrivals seed) (ap (λ (xs : List Act). has_arrived xs c) (sym r.acts_are) ∙ there) in
       let (rest, whole) = life_within seed c (link_at net c).given (link_at net c).waiting lived.life low high (given_front c there) lived.is in
       and_left (list_all p lived.life) (list_all p rest) (sym (list_all-append p lived.life rest) ∙ ap (list_all p) (sym whole) ∙ holds c))
       (λ away.
@@ -218,23 +205,20 @@ module _ (admits : List ℕ → Bool) (replies : ℕ → List ℕ) (seed : ℕ) 
   heard_goes_on : (c : ℕ) → is_accepted c ns ≡ true → list_all goes_on (heard c ns) ≡ true
   heard_goes_on = heard_all goes_on (λ c. made_goes_on c seed)
 
-  no_ticks : list_any is_tick ns ≡ false
-  no_ticks = untimed (made_acts seed) ns (net_state net).passed (made_alone seed) r.right.follows.passed passed
+  pub no_ticks : list_any is_tick ns ≡ false
+  no_ticks = untimed (made_acts seed) ns (net_state net).passed (made_alone seed) r.ends.right.follows.passed r.passed
 
   not_gone : (c : ℕ) → is_accepted c ns ≡ true → (before rest : List NoteValue) (left : Left) → ns ≡ before ++ note.gone c left ∷ rest → ⊥
   not_gone c accepted before rest PeerEnd split =
-      let ended = r.ended c accepted (ap (is_gone_by_in c PeerEnd) split ∙ gone_by c PeerEnd before rest (rw (itself c) refl)) in
-      clash (list_any is_other (made_acts seed)) (made_alone seed) (any_other (is_end_of c) (made_acts seed) (end_other c) ended.0)
+      clash (is_gone_by_in c PeerEnd ns) (r.unended c accepted) (ap (is_gone_by_in c PeerEnd) split ∙ gone_by c PeerEnd before rest (rw (itself c) refl))
   not_gone c accepted before rest LinkFailed split =
-      let failed = r.failed c accepted (ap (is_gone_by_in c LinkFailed) split ∙ gone_by c LinkFailed before rest (rw (itself c) refl)) in
-      clash (list_any is_other (made_acts seed)) (made_alone seed) (any_other (is_fault_of c) (made_acts seed) (fault_other c) failed)
+      clash (is_gone_by_in c LinkFailed ns) (r.unfailed c accepted) (ap (is_gone_by_in c LinkFailed) split ∙ gone_by c LinkFailed before rest (rw (itself c) refl))
   not_gone c accepted before rest Idle split =
-      let inside = r.right.timely.inside before rest (note.gone c Idle) c split (rw (itself c) refl) in
+      let inside = r.ends.right.timely.inside before rest (note.gone c Idle) c split (rw (itself c) refl) in
       let none = or_left (list_any is_tick before) (list_any is_tick (note.gone c Idle ∷ rest)) (sym (list_any-append is_tick before (note.gone c Idle ∷ rest)) ∙ ap (list_any is_tick) (sym split) ∙ no_ticks) in
       clash false refl (no_stretch false before none inside)
   not_gone c accepted before rest Finished split =
-      let s = bus_server admits replies in
-      let ending = ((r.right.sound before rest (note.gone c Finished) split).finished c refl).0 in
+      let ending = ((r.ends.right.sound before rest (note.gone c Finished) split).finished c refl).0 in
       let goes = front_goes_on c before (note.gone c Finished ∷ rest) (ap (λ (l : List NoteValue). list_all goes_on (heard c l)) (sym split) ∙ heard_goes_on c accepted) in
       clash (is_ending (phase s before c)) (not_ending s c before goes) ending
 
@@ -244,23 +228,22 @@ module _ (admits : List ℕ → Bool) (replies : ℕ → List ℕ) (seed : ℕ) 
       (λ gone. let n = gone_note c ns gone in absurd (not_gone c accepted n.before n.rest n.left n.split))
       (λ stays. stays)
 
-  pub none_gone_phase : (c : ℕ) → is_accepted c ns ≡ true → is_gone_phase (phase (bus_server admits replies) ns c) ≡ false
-  none_gone_phase c accepted = (known_world (bus_server admits replies) usual_config ns r.right.sound).gone c ∙ none_gone c accepted
+  pub none_gone_phase : (c : ℕ) → is_accepted c ns ≡ true → is_gone_phase (phase s ns c) ≡ false
+  none_gone_phase c accepted = (known_world s usual_config ns r.ends.right.sound).gone c ∙ none_gone c accepted
 
   -- ---- who sends, and what is heard of it
 
   -- a connection that was accepted is one of those that arrive
-  bounds : (c : ℕ) → is_accepted c ns ≡ true → (1 ≤ c) × (c ≤ 64)
+  pub bounds : (c : ℕ) → is_accepted c ns ≡ true → (1 ≤ c) × (c ≤ 64)
   bounds c accepted =
-      let s = bus_server admits replies in
-      let lives : (link_at net c).live ≡ true = r.settled.live c ∙ ap (λ b. b && not (is_gone_phase (phase s ns c))) accepted ∙ ap not (none_gone_phase c accepted) in
+      let lives : (link_at net c).live ≡ true = r.ends.settled.live c ∙ ap (λ b. b && not (is_gone_phase (phase s ns c))) accepted ∙ ap not (none_gone_phase c accepted) in
       let there : has_arrived net.acts c ≡ true = by_cases (has_arrived net.acts c) (λ yes. yes) (λ away. clash (link_at net c).live (ap (λ (link : LinkState). link.live) (not_there c net away)) lives) in
-      arrives_within (made_acts seed) 64 c (made_arrivals seed) (ap (λ (xs : List Act). has_arrived xs c) (sym acts_are) ∙ there)
+      arrives_within (made_acts seed) 64 c (made_arrivals seed) (ap (λ (xs : List Act). has_arrived xs c) (sym r.acts_are) ∙ there)
 
   -- a connection that a note names was accepted, unless the note says that it came
   named_accepted : (before rest : List NoteValue) (n : NoteValue) (c : ℕ) → ns ≡ before ++ n ∷ rest → conn_of n ≡ Some c → is_arrival n ≡ false → is_accepted c ns ≡ true
   named_accepted before rest n c split names inner =
-      let was : is_accepted c before ≡ true = by_cases (is_accepted c before) (λ yes. yes) (λ new. clash (is_arrival n) inner ((r.right.sound before rest n split).named c names new)) in
+      let was : is_accepted c before ≡ true = by_cases (is_accepted c before) (λ yes. yes) (λ new. clash (is_arrival n) inner ((r.ends.right.sound before rest n split).named c names new)) in
       ap (is_accepted c) split ∙ accepted-append c before (n ∷ rest) ∙ ap (λ b. b || is_accepted c (n ∷ rest)) was
 
   opens_room : list_all (opens_elsewhere 2) ns ≡ true
@@ -288,20 +271,19 @@ module _ (admits : List ℕ → Bool) (replies : ℕ → List ℕ) (seed : ℕ) 
       one before rest _ split = refl
 
   -- all that the octets of a connection say was heard
-  heard_is : (c : ℕ) → is_accepted c ns ≡ true → heard c ns ≡ made_life c seed
+  pub heard_is : (c : ℕ) → is_accepted c ns ≡ true → heard c ns ≡ made_life c seed
   heard_is c accepted =
-      let s = bus_server admits replies in
-      let lived = r.right.lived c accepted in
+      let lived = r.ends.right.lived c accepted in
       let reads = reading_of (phase s ns c) (accepted_known s c ns accepted) (none_gone_phase c accepted) (not_ending s c ns (heard_goes_on c accepted)) in
       let (low, high) = bounds c accepted in
       let all = subst (λ b. Reaches b (heard c ns) (to_hear (last_frame s ns c) lived.life)) (none_gone_phase c accepted) lived.reaches in
-      let unclosed = never_closed s 2 (λ state e. gently e) ns c refl opens_room in
+      let unclosed = never_closed s 2 (λ state e away. ap (list_all is_no_close) (r.says state e) ∙ gently e away) ns c refl opens_room in
       all ∙ ap (λ (last : Option ℕ). to_hear last lived.life) unclosed ∙ life_is seed c lived.life low high (subst (λ (l : List ℕ). IsLife routes_of_bus 16384 l lived.life) (r.given c reads) lived.is)
 
   -- where all 64 connections are accepted, all messages are noted
   pub messages_all : length (gather accepted_by ns) ≡ 64 → number_of is_message ns ≡ 8000
   messages_all count =
-      let all = all_accepted (made_acts seed) 64 ns (net_state net).passed (made_arrivals seed) r.right.follows.passed passed count in
+      let all = all_accepted (made_acts seed) 64 ns (net_state net).passed (made_arrivals seed) r.ends.right.follows.passed r.passed count in
       messages_heard ns within
       ∙ same_sums (λ c. number_of is_message_heard (heard c ns)) (λ c. length (states_of c seed)) (numbers 64)
       (λ c among. ap (number_of is_message_heard) (heard_is c (ap (has_number c) all ∙ among)) ∙ life_messages c seed)
@@ -332,15 +314,14 @@ module _ (admits : List ℕ → Bool) (replies : ℕ → List ℕ) (seed : ℕ) 
       one before rest (note.peer_close c code reason) split = own_heard c (read (wire.closed code reason)) (one_heard before rest (note.peer_close c code reason) c split refl refl)
       one before rest (note.failed c code) split = own_heard c (read (wire.failed code)) (one_heard before rest (note.failed c code) c split refl refl)
       one before rest (note.pinged c) split =
-          let inside = r.right.timely.inside before rest (note.pinged c) c split (rw (itself c) refl) in
+          let inside = r.ends.right.timely.inside before rest (note.pinged c) c split (rw (itself c) refl) in
           let none = or_left (list_any is_tick before) (list_any is_tick (note.pinged c ∷ rest)) (sym (list_any-append is_tick before (note.pinged c ∷ rest)) ∙ ap (list_any is_tick) (sym split) ∙ no_ticks) in
           clash false refl (no_stretch false before none inside)
       one before rest _ split = refl
 
   -- the reply to each connection that was opened
-  reply_length : AreReplies routes_of_bus ns (net_state net).given replies → (c : ℕ) → is_accepted c ns ≡ true → list_any (is_opened c) ns ≡ true → length (replies c) ≡ 129
+  reply_length : AreReplies routes_of_bus ns (net_state net).given s.reply → (c : ℕ) → is_accepted c ns ≡ true → list_any (is_opened c) ns ≡ true → length (s.reply c) ≡ 129
   reply_length agree c accepted opened_it =
-      let s = bus_server admits replies in
       let reads = reading_of (phase s ns c) (accepted_known s c ns accepted) (none_gone_phase c accepted) (not_ending s c ns (heard_goes_on c accepted)) in
       let (low, high) = bounds c accepted in
       let given = r.given c reads ∙ made_sent seed c low high in
@@ -354,10 +335,9 @@ module _ (admits : List ℕ → Bool) (replies : ℕ → List ℕ) (seed : ℕ) 
       at n = named_accepted n.before n.rest (note.opened c n.route n.param) c n.split refl refl
 
   -- what the items of a connection are long
-  items_length : AreReplies routes_of_bus ns (net_state net).given replies → (c : ℕ) → is_accepted c ns ≡ true → length (all_spelled (plain (bus_server admits replies) ns c)) + 18 ≡ 129 + 18 * length (plain (bus_server admits replies) ns c)
+  items_length : AreReplies routes_of_bus ns (net_state net).given s.reply → (c : ℕ) → is_accepted c ns ≡ true → length (all_spelled (plain s ns c)) + 18 ≡ 129 + 18 * length (plain s ns c)
   items_length agree c accepted =
-      let s = bus_server admits replies in
-      let weigh = items_weigh s 2 (λ state e. shortly e) ns c refl short_notes (λ d some. reply_length agree d (opened_accepted d some) some) in
+      let weigh = items_weigh s 2 (λ state e away short. ap (list_all is_short_order) (r.says state e) ∙ shortly e away short) ns c refl short_notes (λ d some. reply_length agree d (opened_accepted d some) some) in
       let once = opened_once c c seed ns (heard_is c accepted) in
       once_is (number_of (is_opened c) ns) (length (all_spelled (plain s ns c))) (length (plain s ns c)) once weigh
     where
@@ -365,8 +345,8 @@ module _ (admits : List ℕ → Bool) (replies : ℕ → List ℕ) (seed : ℕ) 
       once_is k x n one weigh = omega (arith, one, weigh)
 
   -- where all 64 connections are accepted, the octets of all items by their number
-  pub octets_all : AreReplies routes_of_bus ns (net_state net).given replies → length (gather accepted_by ns) ≡ 64
-      → total (map (λ c. length (all_spelled (plain (bus_server admits replies) ns c))) (gather accepted_by ns)) ≡ 7104 + 18 * total (map (λ c. length (plain (bus_server admits replies) ns c)) (gather accepted_by ns))
+  pub octets_all : AreReplies routes_of_bus ns (net_state net).given s.reply → length (gather accepted_by ns) ≡ 64
+      → total (map (λ c. length (all_spelled (plain s ns c))) (gather accepted_by ns)) ≡ 7104 + 18 * total (map (λ c. length (plain s ns c)) (gather accepted_by ns))
   octets_all agree count = sum_up (gather accepted_by ns) (λ c there. items_length agree c there) count
     where
       each : (f g : ℕ → ℕ) (xs : List ℕ) → ((c : ℕ) → has_number c xs ≡ true → f c + 18 ≡ 129 + 18 * g c) → total (map f xs) + 18 * length xs ≡ 129 * length xs + 18 * total (map g xs)
@@ -376,6 +356,6 @@ module _ (admits : List ℕ → Bool) (replies : ℕ → List ℕ) (seed : ℕ) 
           let rest = each f g xs (λ c there. one c (or_second (nat_eq c x) (has_number c xs) there)) in
           omega (arith, first, rest)
 
-      sum_up : (xs : List ℕ) → ((c : ℕ) → has_number c xs ≡ true → length (all_spelled (plain (bus_server admits replies) ns c)) + 18 ≡ 129 + 18 * length (plain (bus_server admits replies) ns c)) → length xs ≡ 64
-          → total (map (λ c. length (all_spelled (plain (bus_server admits replies) ns c))) xs) ≡ 7104 + 18 * total (map (λ c. length (plain (bus_server admits replies) ns c)) xs)
-      sum_up xs one size = let all = each (λ c. length (all_spelled (plain (bus_server admits replies) ns c))) (λ c. length (plain (bus_server admits replies) ns c)) xs one in omega (arith, all, size)
+      sum_up : (xs : List ℕ) → ((c : ℕ) → has_number c xs ≡ true → length (all_spelled (plain s ns c)) + 18 ≡ 129 + 18 * length (plain s ns c)) → length xs ≡ 64
+          → total (map (λ c. length (all_spelled (plain s ns c))) xs) ≡ 7104 + 18 * total (map (λ c. length (plain s ns c)) xs)
+      sum_up xs one size = let all = each (λ c. length (all_spelled (plain s ns c))) (λ c. length (plain s ns c)) xs one in omega (arith, all, size)

@@ -1,32 +1,35 @@
--- Links that take any number of octets: of a run whose acts set no limit nothing is dropped.
-use Rattle.ws_program.proofs.Below.{◌≡◌, ℕ, List, [], ◌∷◌, ◌++◌, Option, Some, None, Bool, true, false, not, nat_eq, nat_lt, cond, length, take, refl, sym, ap, ◌∙◌, append_assoc, append-nil, list_all, list_any, list_any-append, take-length, by_cases, clash, Act, NoteValue, MemNetState, FollowsSchedule, LinkState, link_at, net_state, not_there, credit_of, number_of, is_accepted, made_acts, is_drop, accepted-append}
-use Rattle.ws_program.proofs.Below.{IsReplayed, bus_server, routes_of_bus, is_gone_phase, phase, plain}
-use Rattle.std.proofs.Common.{zero, suc, ◌*◌, ◌+◌, ◌||◌, ◌&&◌, ◌≢◌, arith, subst}
+-- Links that take any number of octets: of a run of a made schedule nothing is dropped, and each link takes all items of its connection.
+use Rattle.std.proofs.Common.{◌≡◌, ◌≢◌, ◌+◌, ◌*◌, ◌&&◌, ◌||◌, ℕ, zero, suc, List, [], ◌∷◌, ◌++◌, Option, Some, None, Bool, true, false, not, nat_eq, nat_lt, cond, length, take, refl, sym, ap, ◌∙◌, subst, arith, append_assoc, append-nil}
+use Rattle.std.specs.List.{fold, list_all, list_any}
+use Rattle.std.proofs.Math.Seq.{take-length}
+use Rattle.std.proofs.lemmas.List.Folds.{list_all-append}
+use Rattle.ws_kinds.proofs.Facts.{and_left, and_right, by_cases, clash, or_left, or_right}
+use Rattle.ws_kinds.specs.NoteValue as note
+use Rattle.ws_kinds.specs.NoteValue.{NoteValue}
 use Rattle.wire_meaning.specs.Answer.{Item, all_spelled}
+use Rattle.link_trait.specs.declared.act.Act.{Act}
+use Rattle.link_trait.specs.declared.act.Act.TheVariants as act
+use Rattle.mem_net.specs.Acts.{credit_by, credit_of}
+use Rattle.mem_net.specs.LinkState.{LinkState}
+use Rattle.mem_net.specs.MemNet.{FollowsSchedule, MemNetState, link_at, net_state, was_short}
+use Rattle.mem_net.specs.Schedule.{has_arrived, is_arrival}
+use Rattle.mem_net.proofs.Acting.{not_there}
+use Rattle.made_schedule.specs.Generator.{state_after}
+use Rattle.made_schedule.specs.Made.{made_acts, messages, opening, openings, round, rounds}
+use Rattle.made_schedule.specs.Message.{message}
+use Rattle.run_meaning.specs.Counts.{drops, ends_short, is_accepted, number_of, writes}
 use Rattle.run_meaning.specs.Kept.{kept, kept_of, without}
 use Rattle.run_meaning.specs.Life.{Carries}
-use Rattle.std.specs.List.{fold}
-use Rattle.std.proofs.lemmas.List.Folds.{list_all-append}
-use Rattle.ws_kinds.proofs.Facts.{and_left, and_right, or_left, or_right}
-use Rattle.ws_kinds.specs.NoteValue as note
-use Rattle.ws_kinds.specs.ConfigValue.{ConfigValue, usual_config}
-use Rattle.link_trait.specs.declared.act.Act.TheVariants as act
-use Rattle.mem_net.specs.Acts.{credit_by}
-use Rattle.mem_net.specs.MemNet.{was_short}
-use Rattle.mem_net.specs.Schedule.{has_arrived, is_arrival}
-use Rattle.made_schedule.specs.Made.{openings, opening, messages, round, rounds}
-use Rattle.made_schedule.specs.Generator.{state_after}
-use Rattle.made_schedule.specs.Message.{message}
-use Rattle.route_table.specs.Table.{RouteTable}
-use Rattle.run_meaning.specs.Counts.{drops, ends_short, writes}
-use Rattle.run_meaning.specs.Right.{Right}
+use Rattle.run_meaning.specs.Lines.{is_gone_phase, phase, plain}
 use Rattle.run_meaning.specs.Server.{Server}
-use Rattle.run_meaning.proofs.Parts.{writes-append}
+use Rattle.run_meaning.proofs.Parts.{accepted-append, writes-append}
+use Rattle.made_life.specs.Life.{is_drop}
+use Rattle.made_life.specs.Turn.{RunsMade}
 
 -- ---- acts
 
 -- the act sets no limit
-abbrev pub is_unlimited : Act → Bool
+abbrev is_unlimited : Act → Bool
 is_unlimited (act.Arrive conn None) = true
 is_unlimited (act.Arrive conn (Some limit)) = false
 is_unlimited (act.Octets conn octets) = true
@@ -97,13 +100,13 @@ rounds_free zero state = refl
 rounds_free (suc count) state =
     list_all-append is_unlimited (rounds count state) (round (state_after (16 * count) state)) ∙ rw (rounds_free count state, round_free (state_after (16 * count) state)) refl
 
-pub made_free : (seed : ℕ) → list_all is_unlimited (made_acts seed) ≡ true
+made_free : (seed : ℕ) → list_all is_unlimited (made_acts seed) ≡ true
 made_free seed = list_all-append is_unlimited (openings 64) (act.Turn ∷ rounds 500 seed) ∙ rw (openings_free 64, rounds_free 500 seed) refl
 
 -- ---- links
 
 -- each write took all that it was offered
-pub full_writes : (net : MemNetState) → FollowsSchedule net → net.done ≡ length net.acts → list_all is_unlimited net.acts ≡ true → (c : ℕ) → was_short (link_at net c).writes ≡ false
+full_writes : (net : MemNetState) → FollowsSchedule net → net.done ≡ length net.acts → list_all is_unlimited net.acts ≡ true → (c : ℕ) → was_short (link_at net c).writes ≡ false
 full_writes net follows done free c =
     by_cases (has_arrived net.acts c)
     (λ there. (follows.fits c there).takes.all (ap (credit_of c) (ap (λ k. take k net.acts) done ∙ take-length net.acts) ∙ credit_none c (Some 0) net.acts free there))
@@ -127,27 +130,6 @@ none_passes p before [] none = refl
 none_passes p before (n ∷ ns) none =
     rw (none before ns n refl) (none_passes p (before ++ n ∷ []) ns (λ front rest m split. none front rest m (sym (append_assoc before (n ∷ []) ns) ∙ split)))
 
-module _ {S : Type 0} (s : Server S) (f : ConfigValue) (t : RouteTable) (ns : List NoteValue) (net : MemNetState) (now : S) (held : ℕ → List ℕ) (right : Right s f t ns (net_state net) now held)
-    (full : (c : ℕ) → was_short (link_at net c).writes ≡ false) where
-  drops_none : (before rest : List NoteValue) (c i h : ℕ) → ns ≡ before ++ note.dropped c i h ∷ rest → ⊥
-  drops_none before rest c i h split =
-      by_cases (is_accepted c before)
-      (λ there.
-      let accepted : is_accepted c ns ≡ true = ap (is_accepted c) split ∙ accepted-append c before (note.dropped c i h ∷ rest) ∙ ap (λ b. b || is_accepted c (note.dropped c i h ∷ rest)) there in
-      let wrote = right.follows.wrote c accepted ∙ ap (writes c) split ∙ writes-append c before (note.dropped c i h ∷ rest) in
-      let front = full_front (writes c before) (writes c (note.dropped c i h ∷ rest)) (ap was_short (sym wrote) ∙ full c) in
-      clash (ends_short false (writes c before)) (never_short false (writes c before) refl front) (right.fair before rest c i h split).short)
-      (λ away. clash false refl ((right.sound before rest (note.dropped c i h) split).named c refl away))
-
-  pub nothing_dropped : number_of is_drop ns ≡ 0
-  nothing_dropped = none_passes is_drop [] ns one
-    where
-      one : (before rest : List NoteValue) (n : NoteValue) → ns ≡ before ++ n ∷ rest → is_drop n ≡ false
-      one before rest (note.dropped c i h) split = absurd (drops_none before rest c i h split)
-      one before rest _ split = refl
-
--- ---- what links took
-
 -- where nothing was dropped, all items are kept
 no_drops : (c : ℕ) (ns : List NoteValue) → number_of is_drop ns ≡ 0 → drops c ns ≡ []
 no_drops c [] none = refl
@@ -164,17 +146,35 @@ empty_or : (xs : List ℕ) → ((xs ≢ []) → ⊥) → xs ≡ []
 empty_or [] none = refl
 empty_or (x ∷ xs) none = absurd (none (λ e. cc))
 
-module _ (admits : List ℕ → Bool) (replies : ℕ → List ℕ) (acts : List Act) (ns : List NoteValue) (net : MemNetState) (held : ℕ → List ℕ)
-    (r : IsReplayed admits usual_config routes_of_bus acts ns (net_state net) held replies) (acts_are : net.acts ≡ acts) (free : list_all is_unlimited acts ≡ true) (none : number_of is_drop ns ≡ 0) where
+module _ {S : Type 0} (s : Server S) (now : S) (seed : ℕ) (ns : List NoteValue) (net : MemNetState) (held : ℕ → List ℕ) (r : RunsMade s now seed ns net held) where
+  full : (c : ℕ) → was_short (link_at net c).writes ≡ false
+  full = full_writes net r.follows r.used (ap (list_all is_unlimited) r.acts_are ∙ made_free seed)
+
+  drops_none : (before rest : List NoteValue) (c i h : ℕ) → ns ≡ before ++ note.dropped c i h ∷ rest → ⊥
+  drops_none before rest c i h split =
+      by_cases (is_accepted c before)
+      (λ there.
+      let accepted : is_accepted c ns ≡ true = ap (is_accepted c) split ∙ accepted-append c before (note.dropped c i h ∷ rest) ∙ ap (λ b. b || is_accepted c (note.dropped c i h ∷ rest)) there in
+      let wrote = r.ends.right.follows.wrote c accepted ∙ ap (writes c) split ∙ writes-append c before (note.dropped c i h ∷ rest) in
+      let front = full_front (writes c before) (writes c (note.dropped c i h ∷ rest)) (ap was_short (sym wrote) ∙ full c) in
+      clash (ends_short false (writes c before)) (never_short false (writes c before) refl front) (r.ends.right.fair before rest c i h split).short)
+      (λ away. clash false refl ((r.ends.right.sound before rest (note.dropped c i h) split).named c refl away))
+
+  pub nothing_dropped : number_of is_drop ns ≡ 0
+  nothing_dropped = none_passes is_drop [] ns one
+    where
+      one : (before rest : List NoteValue) (n : NoteValue) → ns ≡ before ++ n ∷ rest → is_drop n ≡ false
+      one before rest (note.dropped c i h) split = absurd (drops_none before rest c i h split)
+      one before rest _ split = refl
+
   -- the link of a connection that is not gone took all items, spelled
-  pub all_taken : (c : ℕ) → is_accepted c ns ≡ true → is_gone_phase (phase (bus_server admits replies) ns c) ≡ false → (net_state net).taken c ≡ all_spelled (plain (bus_server admits replies) ns c)
+  pub all_taken : (c : ℕ) → is_accepted c ns ≡ true → is_gone_phase (phase s ns c) ≡ false → (net_state net).taken c ≡ all_spelled (plain s ns c)
   all_taken c accepted stays =
-      let s = bus_server admits replies in
-      let lives : (link_at net c).live ≡ true = r.settled.live c ∙ ap (λ b. b && not (is_gone_phase (phase s ns c))) accepted ∙ ap not stays in
-      let there : has_arrived acts c ≡ true =
-      ap (λ (xs : List Act). has_arrived xs c) (sym acts_are) ∙ by_cases (has_arrived net.acts c) (λ yes. yes) (λ away. clash (link_at net c).live (ap (λ (link : LinkState). link.live) (not_there c net away)) lives) in
-      let any = credit_none c (Some 0) acts free there in
+      let lives : (link_at net c).live ≡ true = r.ends.settled.live c ∙ ap (λ b. b && not (is_gone_phase (phase s ns c))) accepted ∙ ap not stays in
+      let there : has_arrived (made_acts seed) c ≡ true =
+      ap (λ (xs : List Act). has_arrived xs c) (sym r.acts_are) ∙ by_cases (has_arrived net.acts c) (λ yes. yes) (λ away. clash (link_at net c).live (ap (λ (link : LinkState). link.live) (not_there c net away)) lives) in
+      let any = credit_none c (Some 0) (made_acts seed) (made_free seed) there in
       let nothing = empty_or (held c) (λ some. let limit = sym any ∙ r.short c accepted stays some in cc) in
-      let kept_all : kept s ns c ≡ plain s ns c = ap (λ (ds : List ℕ). kept_of ds (plain s ns c)) (no_drops c ns none) ∙ all_kept 0 (plain s ns c) in
-      let carried = subst (λ b. Carries b ((net_state net).taken c) (held c) (all_spelled (kept s ns c))) stays (r.right.carried c accepted) in
+      let kept_all : kept s ns c ≡ plain s ns c = ap (λ (ds : List ℕ). kept_of ds (plain s ns c)) (no_drops c ns nothing_dropped) ∙ all_kept 0 (plain s ns c) in
+      let carried = subst (λ b. Carries b ((net_state net).taken c) (held c) (all_spelled (kept s ns c))) stays (r.ends.right.carried c accepted) in
       sym (append-nil ((net_state net).taken c)) ∙ ap (λ (l : List ℕ). (net_state net).taken c ++ l) (sym nothing) ∙ carried ∙ ap all_spelled kept_all
